@@ -1,0 +1,10 @@
+pub mod Vector
+pub mod Profile
+pub mod Name
+pub mod Segment
+pub mod Edge
+pub mod LiveList
+pub mod Meets
+pub mod Crossing
+pub mod RisingSet
+pub mod Rounding

@@ -1,0 +1,25 @@
+//! The integer grid that every other crate stands on: points, names, segments, edges, and the exact
+//! products of their coordinates.
+//!
+//! Coordinates are in pixels. Points are ordered by x, and at one x by y; names by editor, then by serial.
+//! The definitions of the drawing and of its rounding are in `specs/`.
+
+#![tactic(auto, using(crate::proofs::Signed::signed))]
+
+mod edge;
+mod memory;
+mod name;
+mod pixel_box;
+mod point;
+mod profile;
+mod segment;
+mod whole;
+
+pub use edge::Edge;
+pub use memory::Memory;
+pub use name::Name;
+pub use pixel_box::PixelBox;
+pub use point::{Point, Vertex};
+pub use profile::Profile;
+pub use segment::{EndFault, Ur};
+pub use whole::{cross, difference, dot, product, sum, vector, way};

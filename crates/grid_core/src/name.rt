@@ -1,0 +1,53 @@
+ghost use Rattle.std.specs.Prelude.{◌≡◌, ◌↔◌, IsNone, IfSome};
+ghost use Rattle.grid_core.specs.Name.{IsLabel, NamesNothing};
+
+use std::marker::Model;
+
+/// The name of a segment: the editor who drew it, and that editor's serial number of it.
+/// Names are ordered by editor, then by serial.
+#[derive(Clone, Copy, Debug, PartialEq, Eq, PartialOrd, Ord)]
+pub struct Name {
+    editor: u8,
+    serial: u16,
+}
+
+impl Model for Name {
+    ghost use Rattle.grid_core.specs.Name.{Label, IsLabel};
+
+    ghost Value = { Label };
+
+    ghost view = { λ n. record { editor = n.editor; serial = n.serial } };
+
+    ghost invariant = { λ n. IsLabel (record { editor = n.editor; serial = n.serial }) };
+
+    ghost inverse = { λ n. record { editor = n.editor; serial = n.serial } };
+}
+
+impl Name {
+    /// The name of this editor and serial. `None` where the editor isn't one of 1 to 64, or the serial is 0.
+    pub fn new(editor: u8, serial: u16) -> Option<Name>
+        ensures none { IsNone result ↔ NamesNothing editor serial }
+        ensures value { IfSome result (λ n. n ≡ record { editor = editor; serial = serial }) }
+    {
+        if editor == 0 || editor > 64 || serial == 0 {
+            return None;
+        }
+        Some(Name { editor, serial })
+    }
+
+    /// The editor, 1 to 64.
+    pub fn editor(&self) -> u8
+        ensures value { result ≡ self.now.editor }
+        ensures kept { IsLabel self.now }
+    {
+        self.editor
+    }
+
+    /// The serial number, 1 to 65,535.
+    pub fn serial(&self) -> u16
+        ensures value { result ≡ self.now.serial }
+        ensures kept { IsLabel self.now }
+    {
+        self.serial
+    }
+}
