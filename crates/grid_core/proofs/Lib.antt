@@ -1,1 +1,6 @@
+pub mod Identities
+pub mod Order
+pub mod Polynomial
+pub mod Ring
 pub mod Signed
+pub mod Sizes

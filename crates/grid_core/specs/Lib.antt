@@ -2,6 +2,7 @@ pub mod Vector
 pub mod Profile
 pub mod Name
 pub mod Segment
+pub mod Side
 pub mod Edge
 pub mod LiveList
 pub mod Meets

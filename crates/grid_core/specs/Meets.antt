@@ -1,9 +1,17 @@
 -- When a segment meets a box of pixels. A pixel has its left and lower sides, and not its right and upper ones.
-use Rattle.std.specs.Prelude.{◌≡◌, ℕ, ℤ, pos, ◌+ℤ◌, ◌-ℤ◌, ◌*ℤ◌, ◌≤ℤ◌, ◌<ℤ◌, ◌≤◌, ◌<◌, int_lt, int_le, Bool, true, false, not, ◌&&◌, ◌||◌, if◌then◌else◌, List, [], ◌∷◌, IsTrue, ◌↔◌}
+use Rattle.std.specs.Prelude.{ℕ, ◌≤ℤ◌, ℤ, pos, ◌+ℤ◌, ◌-ℤ◌, ◌*ℤ◌, int_lt, int_le, Bool, true, false, not, ◌&&◌, ◌||◌, if◌then◌else◌, List, [], ◌∷◌}
 use Rattle.std.specs.List.{list_all}
 use Rattle.grid_core.specs.declared.point.Point.{Point}
 use Rattle.grid_core.specs.declared.pixel_box.PixelBox.{PixelBox}
+use Rattle.grid_core.specs.Vector.{IsWithin}
 use Rattle.grid_core.specs.Segment.{Segment, direction}
+
+-- the box has a pixel, and its coordinates are at most n in size
+pub record IsBox (n : ℕ) (area : PixelBox) : Type 0 where
+  pub lo : IsWithin n area.lo
+  pub hi : IsWithin n area.hi
+  pub wide : area.lo.x ≤ℤ area.hi.x
+  pub high : area.lo.y ≤ℤ area.hi.y
 
 -- a condition on a number t: a + b t is at least 0, or above 0 where it is strict
 pub record Constraint : Type 0 where

@@ -1,5 +1,5 @@
 -- Sets as rising lists: the members in order, each once.
-use Rattle.std.specs.Prelude.{List, [], ◌∷◌, fold}
+use Rattle.std.specs.Prelude.{List, [], fold}
 use Rattle.std.specs.declared.cmp.Ordering.{Ordering}
 use Rattle.std.specs.BTreeSet.{insert_key}
 

@@ -1,6 +1,5 @@
 -- Segments of a drawing: a name and two different ends. The lesser end, by x and then by y, is p.
 use Rattle.std.specs.Prelude.{◌≡◌, ℕ, if◌then◌else◌}
-use Rattle.std.specs.declared.cmp.Ordering.{Ordering}
 use Rattle.std.specs.declared.cmp.Ordering.TheVariants.{Less}
 use Rattle.std.specs.Ordering.{is_lt}
 use Rattle.grid_core.specs.declared.point.Point.{Point}

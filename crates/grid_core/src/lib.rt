@@ -13,6 +13,7 @@ mod pixel_box;
 mod point;
 mod profile;
 mod segment;
+mod side;
 mod whole;
 
 pub use edge::Edge;
@@ -22,4 +23,5 @@ pub use pixel_box::PixelBox;
 pub use point::{Point, Vertex};
 pub use profile::Profile;
 pub use segment::{EndFault, Ur};
+pub use side::{Side, side_of};
 pub use whole::{cross, difference, dot, product, sum, vector, way};
