@@ -4,3 +4,4 @@ pub mod Polynomial
 pub mod Ring
 pub mod Signed
 pub mod Sizes
+pub mod WorkedDrawings

@@ -29,7 +29,8 @@ point_along s u den =
 abbrev pub within_both : Segment → ℤ → ℤ → ℤ → Option RationalPoint
 within_both s u v den = if is_part u den && is_part v den then Some (point_along s u den) else None
 
--- the one common point of the two segments, with the size of the cross product of their directions as denominator
+-- where the lines of two segments that aren't parallel meet, if that point lies on both;
+-- the denominator is the size of the cross product of the directions
 abbrev pub crossing_of : Segment → Segment → Option RationalPoint
 crossing_of s t =
     let den = cross_of (direction s) (direction t) in

@@ -1,8 +1,8 @@
 -- Edges between grid points. An edge has no direction.
-use Rattle.std.specs.Prelude.{◌≡◌, ◌⊎◌}
+use Rattle.std.specs.Prelude.{◌≡◌, Bool, if◌then◌else◌}
 use Rattle.std.specs.declared.cmp.Ordering.{Ordering}
 use Rattle.std.specs.declared.cmp.Ordering.TheVariants.{Less}
-use Rattle.std.specs.Ordering.{ordering_then}
+use Rattle.std.specs.Ordering.{ordering_then, is_lt, is_eq}
 use Rattle.grid_core.specs.declared.point.Point.{Point}
 use Rattle.grid_core.specs.Vector.{point_cmp}
 
@@ -15,10 +15,14 @@ pub record EdgeEnds : Type 0 where
 abbrev pub IsEdge : EdgeEnds → Type 0
 IsEdge e = point_cmp e.a e.b ≡ Less
 
--- the two ends are u and v, in either order
-abbrev pub Joins : Point → Point → EdgeEnds → Type 0
-Joins u v e = ((e.a ≡ u) × (e.b ≡ v)) ⊎ ((e.a ≡ v) × (e.b ≡ u))
+-- the edge between two different points, given in either order
+abbrev pub edge_between : Point → Point → EdgeEnds
+edge_between u v = if is_lt (point_cmp u v) then record { a = u; b = v } else record { a = v; b = u }
 
 -- by lesser end, and at one lesser end by greater end
 abbrev pub edge_cmp : EdgeEnds → EdgeEnds → Ordering
 edge_cmp e f = ordering_then (point_cmp e.a f.a) (point_cmp e.b f.b)
+
+-- the two are one edge
+abbrev pub edge_eq : EdgeEnds → EdgeEnds → Bool
+edge_eq e f = is_eq (edge_cmp e f)

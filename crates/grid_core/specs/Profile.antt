@@ -6,9 +6,9 @@ pub record Sizes : Type 0 where
   pub bound : ℕ
   pub side : ℕ
 
--- neither size is zero, and the bound is at most 2 ^ 30
+-- neither size is 0, and neither is above 2 ^ 30
 pub record IsProfile (p : Sizes) : Type 0 where
   pub some_bound : 0 < p.bound
-  pub bounded : p.bound ≤ 2 ^ 30
+  pub greatest_bound : p.bound ≤ 2 ^ 30
   pub some_side : 0 < p.side
-  pub sided : p.side ≤ 2 ^ 30
+  pub greatest_side : p.side ≤ 2 ^ 30

@@ -1,16 +1,18 @@
 -- The snap rounding of a live list, from nothing: hot pixels with their counts, routes, edges and bundles.
--- After Guibas and Marimont, "Rounding Arrangements Dynamically", and Hobby, "Practical Segment Intersection with
--- Finite Precision Output". Half-open pixels, and touches that count as crossings, are this project's own.
-use Rattle.std.specs.Prelude.{ℕ, Bool, List, [], ◌∷◌, ◌++◌, map, filter, count_by, filter_map, flat_map, zip, drop, option_map, Option, if◌then◌else◌}
+-- After Guibas and Marimont, "Rounding Arrangements Dynamically" (1995, 1998), and Hobby, "Practical Segment
+-- Intersection with Finite Precision Output" (1999). Half-open pixels, and touches that count as crossings,
+-- are this project's own.
+use Rattle.std.specs.Prelude.{ℕ, List, [], ◌∷◌, ◌++◌, map, filter, count_by, filter_map, flat_map, zip, drop, option_map, Option}
 use Rattle.std.specs.List.{list_any}
 use Rattle.std.specs.declared.cmp.Ordering.{Ordering}
-use Rattle.std.specs.Ordering.{int_cmp, ordering_then, is_lt, is_eq}
+use Rattle.std.specs.Ordering.{int_cmp, ordering_then}
 use Rattle.grid_core.specs.declared.point.Point.{Point}
 use Rattle.grid_core.specs.declared.point.Vertex.{Vertex}
 use Rattle.grid_core.specs.Vector.{point_cmp, point_eq, dot_of}
 use Rattle.grid_core.specs.Name.{Label}
 use Rattle.grid_core.specs.Segment.{Segment, direction}
-use Rattle.grid_core.specs.Edge.{EdgeEnds, edge_cmp}
+use Rattle.grid_core.specs.Edge.{EdgeEnds, edge_cmp, edge_eq, edge_between}
+use Rattle.grid_core.specs.LiveList.{names}
 use Rattle.grid_core.specs.Meets.{meets_pixel_of}
 use Rattle.grid_core.specs.Crossing.{crossing_of, pixel_of}
 use Rattle.grid_core.specs.RisingSet.{rising}
@@ -26,7 +28,7 @@ pub record BundledEdge : Type 0 where
   pub names : List Label
 
 -- a snap rounding
-pub record Picture : Type 0 where
+pub record SnapRounding : Type 0 where
   pub routes : List RoutedSegment
   pub vertices : List Vertex
   pub edges : List BundledEdge
@@ -68,32 +70,24 @@ along_cmp s g h = ordering_then (int_cmp (dot_of g (direction s)) (dot_of h (dir
 abbrev pub route : List Segment → Segment → List Point
 route ss s = rising (along_cmp s) (filter (meets_pixel_of s) (hot ss))
 
--- the edge between two points
-abbrev pub edge_between : Point → Point → EdgeEnds
-edge_between u v = if is_lt (point_cmp u v) then record { a = u; b = v } else record { a = v; b = u }
-
--- the edges between neighbours in a list of points
-abbrev pub neighbours : List Point → List EdgeEnds
-neighbours vs = map (λ w. edge_between w.0 w.1) (zip vs (drop 1 vs))
+-- the edges from each point of a list to the next
+abbrev pub edges_along : List Point → List EdgeEnds
+edges_along vs = map (λ w. edge_between w.0 w.1) (zip vs (drop 1 vs))
 
 -- the edges of the route of s
 abbrev pub route_edges : List Segment → Segment → List EdgeEnds
-route_edges ss s = neighbours (route ss s)
+route_edges ss s = edges_along (route ss s)
 
--- the edges: the neighbours of all routes, each once, in order
+-- the edges of all routes, each once, in order
 abbrev pub edges : List Segment → List EdgeEnds
 edges ss = rising edge_cmp (flat_map (route_edges ss) ss)
 
--- the two are one edge
-abbrev pub edge_eq : EdgeEnds → EdgeEnds → Bool
-edge_eq e f = is_eq (edge_cmp e f)
-
 -- the names of the segments whose routes have e, in order
 abbrev pub bundle : List Segment → EdgeEnds → List Label
-bundle ss e = map (λ s. s.name) (filter (λ s. list_any (edge_eq e) (route_edges ss s)) ss)
+bundle ss e = names (filter (λ s. list_any (edge_eq e) (route_edges ss s)) ss)
 
 -- the snap rounding of a live list
-abbrev pub rounding_of : List Segment → Picture
+abbrev pub rounding_of : List Segment → SnapRounding
 rounding_of ss =
     record {
       routes = map (λ s. record { ur = s; points = route ss s }) ss;

@@ -24,12 +24,12 @@ impl Model for Edge {
 
 impl Edge {
     ghost use Rattle.std.specs.Prelude.{◌≡◌, ◌↔◌, IsNone, IfSome};
-    ghost use Rattle.grid_core.specs.Edge.{IsEdge, Joins};
+    ghost use Rattle.grid_core.specs.Edge.{IsEdge, edge_between};
 
     /// The edge between `u` and `v`, given in either order. `None` where they are equal.
     pub fn of(u: Point, v: Point) -> Option<Edge>
         ensures equal { IsNone result ↔ (u ≡ v) }
-        ensures joins { IfSome result (Joins u v) }
+        ensures value { IfSome result (λ e. e ≡ edge_between u v) }
     {
         match u.cmp(&v) {
             Ordering::Less => Some(Edge { a: u, b: v }),

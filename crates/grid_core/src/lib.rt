@@ -1,11 +1,12 @@
 //! The integer grid that every other crate stands on: points, names, segments, edges, and the exact
 //! products of their coordinates.
 //!
-//! Coordinates are in pixels. Points are ordered by x, and at one x by y; names by editor, then by serial.
-//! The definitions of the drawing and of its rounding are in `specs/`.
+//! Coordinates are in pixels. Points are ordered by x, and at one x by y; names by editor, then by
+//! serial. The definitions of the drawing and of its snap rounding are in `specs/`.
 
 #![tactic(auto, using(crate::proofs::Signed::signed))]
 
+mod arithmetic;
 mod edge;
 mod memory;
 mod name;
@@ -14,8 +15,8 @@ mod point;
 mod profile;
 mod segment;
 mod side;
-mod whole;
 
+pub use arithmetic::{cross, difference, dot, offset, product, sum, vector};
 pub use edge::Edge;
 pub use memory::Memory;
 pub use name::Name;
@@ -24,4 +25,3 @@ pub use point::{Point, Vertex};
 pub use profile::Profile;
 pub use segment::{EndFault, Ur};
 pub use side::{Side, side_of};
-pub use whole::{cross, difference, dot, product, sum, vector, way};

@@ -1,7 +1,8 @@
 use std::alloc::{AllocError, AllocFailed};
 use thiserror::Error;
 
-/// The answer for want of memory, in every crate. What the call was lent is as before, unless its entry says otherwise.
+/// The answer for want of memory, in every crate.
+/// What the call was lent is as before, unless the call's comment says otherwise.
 #[derive(Clone, Copy, Debug, PartialEq, Eq, Error)]
 #[error("out of memory")]
 pub struct Memory;

@@ -1,5 +1,5 @@
 ghost use Rattle.std.specs.Prelude.{◌≡◌, ◌↔◌, IsNone, IfSome};
-ghost use Rattle.grid_core.specs.Name.{IsLabel, NamesNothing};
+ghost use Rattle.grid_core.specs.Name.{IsLabel, IsNoName};
 
 use std::marker::Model;
 
@@ -24,9 +24,10 @@ impl Model for Name {
 }
 
 impl Name {
-    /// The name of this editor and serial. `None` where the editor isn't one of 1 to 64, or the serial is 0.
+    /// The name of this editor and serial.
+    /// `None` where the editor isn't one of 1 to 64, or the serial is 0.
     pub fn new(editor: u8, serial: u16) -> Option<Name>
-        ensures none { IsNone result ↔ NamesNothing editor serial }
+        ensures none { IsNone result ↔ IsNoName editor serial }
         ensures value { IfSome result (λ n. n ≡ record { editor = editor; serial = serial }) }
     {
         if editor == 0 || editor > 64 || serial == 0 {
@@ -49,5 +50,17 @@ impl Name {
         ensures kept { IsLabel self.now }
     {
         self.serial
+    }
+}
+
+/// The name 1.1. It fills the unused places of a list that keeps some in the value.
+impl Default for Name {
+    ghost is_default = { λ n. n ≡ record { editor = 1; serial = 1 } };
+
+    fn default() -> Name {
+        Name {
+            editor: 1,
+            serial: 1,
+        }
     }
 }

@@ -1,11 +1,11 @@
 /// A grid point, or the direction between two. As a pixel it is the unit square around the point:
 ///
 /// ```text
-///    +- - - - +        (i, j) stands for i - 1/2 <= x < i + 1/2
-///    |                            and for j - 1/2 <= y < j + 1/2:
-///    |  i,j   .        the left and the lower side belong to the pixel,
-///    |                 the right and the upper side to its neighbours
-///    +--------+
+///    o - - - - o       (i, j) stands for i - 1/2 <= x < i + 1/2
+///    |         :                 and for j - 1/2 <= y < j + 1/2:
+///    |   i,j   :       the left and the lower side belong to the pixel,
+///    |         :       with the corner between them; the right and the
+///    +---------o       upper side and the other corners to its neighbours
 /// ```
 ///
 /// Points are ordered by x, and at one x by y.

@@ -46,8 +46,10 @@ impl Ur {
 
     /// The segment between `a` and `b`, given in either order.
     pub fn new(profile: &Profile, name: Name, a: Point, b: Point) -> Result<Ur, EndFault>
-        ensures range { IsErrOf result EndFault.Range ↔ (IsOutside profile.now.bound a ⊎ IsOutside profile.now.bound b) }
-        ensures point { IsErrOf result EndFault.Point ↔ ((a ≡ b) × IsWithin profile.now.bound a) }
+        ensures range { IsErrOf result EndFault.Range
+            ↔ (IsOutside profile.now.bound a ⊎ IsOutside profile.now.bound b) }
+        ensures point { IsErrOf result EndFault.Point
+            ↔ ((a ≡ b) × IsWithin profile.now.bound a) }
         ensures value { IfOk result (λ s. s ≡ segment_of name a b) }
         ensures within { IfOk result (IsSegment profile.now.bound) }
     {

@@ -36,27 +36,28 @@ pub fn difference(a: i128, b: i128) -> i128
     a - b
 }
 
-/// `b - a`: the way from `a` to `b` in one coordinate, of coordinates up to 2^60 in size.
+/// How far it is from one coordinate to another, of coordinates up to 2^60 in size.
 #[inline(always)]
-pub fn way(a: i64, b: i64) -> i64
-    requires from { unsigned_abs a ≤ 2 ^ 60 }
-    requires to { unsigned_abs b ≤ 2 ^ 60 }
-    ensures { result ≡ b -ℤ a }
+pub fn offset(from: i64, to: i64) -> i64
+    requires from_within { unsigned_abs from ≤ 2 ^ 60 }
+    requires to_within { unsigned_abs to ≤ 2 ^ 60 }
+    ensures { result ≡ to -ℤ from }
 {
-    b - a
+    to - from
 }
 
-/// The direction from `a` to `b`, of points up to 2^39 in size.
+/// The direction from one point to another, of points up to 2^39 in size.
 #[inline(always)]
-pub fn vector(a: Point, b: Point) -> Point
-    requires from { IsWithin (2 ^ 39) a }
-    requires to { IsWithin (2 ^ 39) b }
-    ensures value { result ≡ minus b a }
+pub fn vector(from: Point, to: Point) -> Point
+    requires from_within { IsWithin (2 ^ 39) from }
+    requires to_within { IsWithin (2 ^ 39) to }
+    ensures value { result ≡ minus to from }
     ensures small { IsWithin (2 ^ 40) result }
-    ensures between_segments { IsWithin (2 ^ 30) a → IsWithin (2 ^ 30) b → IsWithin (2 ^ 31) result }
+    ensures of_segments { IsWithin (2 ^ 30) from → IsWithin (2 ^ 30) to
+        → IsWithin (2 ^ 31) result }
 {
-    let x = way(a.x, b.x);
-    let y = way(a.y, b.y);
+    let x = offset(from.x, to.x);
+    let y = offset(from.y, to.y);
     Point { x, y }
 }
 
