@@ -1,7 +1,11 @@
 pub mod Identities
+pub mod ListMembers
+pub mod LiveLists
 pub mod Order
 pub mod Polynomial
 pub mod Ring
+pub mod RisingMembers
+pub mod RoundingMembers
 pub mod Signed
 pub mod Sizes
 pub mod WorkedDrawings

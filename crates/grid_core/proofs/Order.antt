@@ -1,14 +1,17 @@
--- The laws of the order of points: by x, and at one x by y.
--- They are those of the order of numbers, taken on each coordinate and joined.
+-- The laws of the orders of points, edges and names: each by one part, and where that is equal by another.
+-- They are those of the order of numbers, taken on each part and joined.
 
-use Rattle.std.proofs.Common.{◌≡◌, refl, ap, sym, ◌∙◌, arith, inl, inr, Ordering, Less, Equal, Greater, int_cmp}
+use Rattle.std.proofs.Common.{◌≡◌, refl, ap, sym, ◌∙◌, arith, inl, inr, Ordering, Less, Equal, Greater, int_cmp, nat_cmp}
 use Rattle.std.specs.Prelude.{◌<ℤ◌, ◌⊎◌}
 use Rattle.std.specs.Cmp.{IsTotalOrder}
 use Rattle.std.specs.Ordering.{ordering_then, ordering_reverse, MatchOrdering}
 use Rattle.std.proofs.lemmas.Int.{ints}
-use Rattle.std.proofs.lemmas.Cmp.{int_ranked, int_cmp_total, tied_itself, then_total, on_total}
+use Rattle.std.proofs.lemmas.Cmp.{int_ranked, int_cmp_total, nat_cmp_total, tied_itself, then_total, on_total}
+use Rattle.std.proofs.lemmas.Map.Lookups.{CmpEqualImpliesEq, exact_unsigned}
 use Rattle.grid_core.specs.declared.point.Point.{Point}
 use Rattle.grid_core.specs.Vector.{point_cmp}
+use Rattle.grid_core.specs.Name.{Label, label_cmp}
+use Rattle.grid_core.specs.Edge.{EdgeEnds, edge_cmp}
 
 -- points are totally ordered
 pub point_total : IsTotalOrder point_cmp
@@ -66,3 +69,30 @@ before Greater oy a b hx hy h = absurd (omega (arith, ints, h))
 pub point_before : (a b : Point) → (a.x <ℤ b.x) ⊎ ((a.x ≡ b.x) × (a.y <ℤ b.y)) → point_cmp a b ≡ Less
 point_before a b h =
     before (int_cmp a.x b.x) (int_cmp a.y b.y) a b (int_ranked a.x b.x _ (λ i. int_cmp a.x b.x)) (int_ranked a.y b.y _ (λ i. int_cmp a.y b.y)) h
+
+-- ---- edges and names
+
+both_equal : (o l : Ordering) {P Q : Type 0} → (o ≡ Equal → P) → (l ≡ Equal → Q) → ordering_then o l ≡ Equal → P × Q
+both_equal Equal l f g h = (f refl, g h)
+both_equal Less l f g h = absurd (cc h)
+both_equal Greater l f g h = absurd (cc h)
+
+-- edges are totally ordered
+pub edge_total : IsTotalOrder edge_cmp
+edge_total = then_total (on_total (λ (e : EdgeEnds). e.a) point_total) (on_total (λ (e : EdgeEnds). e.b) point_total)
+
+-- edges of equal order are one edge
+pub edge_exact : CmpEqualImpliesEq edge_cmp
+edge_exact e f h =
+    let ends = both_equal (point_cmp e.a f.a) (point_cmp e.b f.b) (point_exact e.a f.a) (point_exact e.b f.b) h in
+    λ i. record { a = ends.0 i; b = ends.1 i }
+
+-- names are totally ordered
+pub label_total : IsTotalOrder label_cmp
+label_total = then_total (on_total (λ (n : Label). n.editor) nat_cmp_total) (on_total (λ (n : Label). n.serial) nat_cmp_total)
+
+-- names of equal order are one name
+pub label_exact : CmpEqualImpliesEq label_cmp
+label_exact m n h =
+    let parts = both_equal (nat_cmp m.editor n.editor) (nat_cmp m.serial n.serial) (exact_unsigned m.editor n.editor) (exact_unsigned m.serial n.serial) h in
+    λ i. record { editor = parts.0 i; serial = parts.1 i }

@@ -8,6 +8,7 @@
 
 mod arithmetic;
 mod edge;
+mod laws;
 mod memory;
 mod name;
 mod pixel_box;
@@ -18,6 +19,9 @@ mod side;
 
 pub use arithmetic::{cross, difference, dot, offset, product, sum, vector};
 pub use edge::Edge;
+pub use laws::{
+    bundles_are_of_routes, edges_are_of_routes, hot_pixels_are_counted, routes_are_met,
+};
 pub use memory::Memory;
 pub use name::Name;
 pub use pixel_box::PixelBox;

@@ -14,7 +14,8 @@ pub enum Side {
     Right,
 }
 
-/// The side of `s` on which `at` lies (the orientation of `p`, `q` and `at`), for coordinates up to 2^39 in size.
+/// The side of `s` on which `at` lies (the orientation of `p`, `q` and `at`), for coordinates up
+/// to 2^39 in size.
 #[inline]
 pub fn side_of(s: &Ur, at: Point) -> Side
     requires { IsWithin (2 ^ 39) at }
