@@ -1,0 +1,4 @@
+pub mod Adapters
+pub mod Causes
+pub mod Steady
+pub mod Transfers
