@@ -1,0 +1,13 @@
+-- The lines before `rest` were answered, and nothing else was written.
+use Rattle.std.proofs.Common.{◌≤◌, length}
+use Rattle.snapround.proofs.Runs.{IsAnswered}
+use Rattle.snapround.proofs.play.answer_all.Given as goal
+
+abbrev pub invariant-loop-line : goal.invariant-loop-line
+invariant-loop-line g l = record {
+  answered : IsAnswered l.input l.machine l.number l.some_bad l.rest (g.K.Sink.written l.fn.sink) (g.K.Sink.written l.sink);
+  later : g.K.Sink.faults l.fn.sink ≤ g.K.Sink.faults l.sink;
+}
+
+abbrev pub decreases-loop-line : goal.decreases-loop-line
+decreases-loop-line g l = length l.rest

@@ -1,0 +1,4 @@
+pub mod Script
+pub mod Reply
+pub mod Machine
+pub mod Play

@@ -1,0 +1,53 @@
+-- The call `play`: what each status says of what was read and written.
+-- What speaks of bytes holds where the source tells its bytes, and the sink those that were written to it.
+use Rattle.std.specs.Prelude.{◌≡◌, ◌≢◌, ℕ, ◌≤◌, ◌⊎◌, Bool, true, false, List, [], ◌∷◌, Option, IfSome, codes, bytes_eq}
+use Rattle.std.specs.Io.KnownBytes.{Appends, IsAtEnd}
+use Rattle.io_ports.specs.Causes.{Rose}
+use Rattle.io_ports.specs.Transfers.{TakesExactly, WritesPrefix}
+use Rattle.snapround.specs.declared.play.Status.{Status}
+use Rattle.snapround.specs.declared.play.Status.TheVariants.{Done, SomeBad, BadWords, ReadFault, WriteFault, TooLong, Memory}
+use Rattle.snapround.specs.Machine.{output, has_bad_line}
+
+-- the number that the program ends with
+abbrev pub code_of : Status → ℕ
+code_of Done = 0
+code_of SomeBad = 1
+code_of BadWords = 2
+code_of ReadFault = 3
+code_of WriteFault = 4
+code_of TooLong = 5
+code_of Memory = 6
+
+-- the words are the one word `play`
+abbrev pub is_play : List (List ℕ) → Bool
+is_play (word ∷ []) = bytes_eq word (codes "play")
+is_play _ = false
+
+-- what a source and a sink tell at one moment: the bytes that are left and those that were written,
+-- both counts of faults, and whether the sink is shut
+pub record Outside : Type 0 where
+  pub left : Option (List ℕ)
+  pub read_faults : ℕ
+  pub written : Option (List ℕ)
+  pub write_faults : ℕ
+  pub shut : Bool
+
+-- `play` ended with this status
+pub record Played (status : ℕ) (old new : Outside) : Type 0 where
+  -- no other status comes
+  pub known : (status ≤ 6) × (status ≢ 2)
+  -- 0 and 1: nothing is left, exactly the replies to all lines were written, and the sink is shut
+  pub read : status ≤ 1 → IsAtEnd new.left
+  pub replied : IfSome old.left (λ bytes. status ≤ 1 → Appends old.written new.written (output bytes))
+  pub shut : status ≤ 1 → new.shut ≡ true
+  -- 0 where no line is bad, and 1 where one is
+  pub clean : IfSome old.left (λ bytes. status ≡ 0 → has_bad_line bytes ≡ false)
+  pub bad : IfSome old.left (λ bytes. status ≡ 1 → has_bad_line bytes ≡ true)
+  -- 3 and 4: the source failed, or the sink did
+  pub source_failed : status ≡ 3 → Rose old.read_faults new.read_faults
+  pub sink_failed : status ≡ 4 → Rose old.write_faults new.write_faults
+  -- 5 exactly where one byte more than the greatest input was taken; memory may be refused for it
+  pub too_long : status ≡ 5 → TakesExactly old.left new.left 16777217
+  pub too_long_only : IfSome old.left (λ _. TakesExactly old.left new.left 16777217 → (status ≡ 5) ⊎ (status ≡ 6))
+  -- 4 and 6: a prefix of the replies was written
+  pub part : IfSome old.left (λ bytes. (status ≡ 4) ⊎ (status ≡ 6) → WritesPrefix old.written new.written (output bytes))
