@@ -1,11 +1,16 @@
+pub mod AlongSegments
+pub mod Constraints
 pub mod Identities
 pub mod ListMembers
 pub mod LiveLists
+pub mod MeetingPoint
 pub mod Order
 pub mod Polynomial
 pub mod Ring
 pub mod RisingMembers
 pub mod RoundingMembers
+pub mod RouteEnds
+pub mod RouteOrder
 pub mod Signed
 pub mod Sizes
 pub mod WorkedDrawings

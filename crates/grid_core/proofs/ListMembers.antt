@@ -33,8 +33,19 @@ module _ {X : Type 0} where
 
   -- ---- one element more
 
-  contains_first : (x : X) (xs : List X) → Contains (x ∷ xs) x
+  -- the first element, a later one, and which of the two
+  pub contains_first : (x : X) (xs : List X) → Contains (x ∷ xs) x
   contains_first x xs = let fits : 0 < length (x ∷ xs) = omega arith in (0, fits, refl)
+
+  pub contains_later : (x : X) (xs : List X) (y : X) → Contains xs y → Contains (x ∷ xs) y
+  contains_later x xs y h = let fits : suc h.0 < length (x ∷ xs) = omega (arith, h.1) in (suc h.0, fits, h.2)
+
+  pub contains_cases : (x : X) (xs : List X) (y : X) → Contains (x ∷ xs) y → (x ≡ y) ⊎ Contains xs y
+  contains_cases x xs y h = by h.0 h.1 h.2
+    where
+      by : (k : ℕ) → k < length (x ∷ xs) → slice_index_or (x ∷ xs) k y ≡ y → (x ≡ y) ⊎ Contains xs y
+      by zero fits e = inl e
+      by (suc k) fits e = let within : k < length xs = omega (arith, fits) in inr (k, within, e)
 
   contains_one : (x y : X) → Contains (x ∷ []) y → x ≡ y
   contains_one x y h = by h.0 h.1 h.2

@@ -33,7 +33,8 @@ or_turn false b c = refl
 module _ {K : Type 0} {R : K → K → Ordering} (o : IsTotalOrder R) where
   -- ---- order
 
-  all_inserted : (P : K → Type 0) (k : K) (ks : List K) → P k → AllByRecursion P ks → AllByRecursion P (insert_key R ks k)
+  -- what holds of a member and of a list holds of the list with the member
+  pub all_inserted : (P : K → Type 0) (k : K) (ks : List K) → P k → AllByRecursion P ks → AllByRecursion P (insert_key R ks k)
   all_inserted P k [] p h = (p, tt)
   all_inserted P k (x ∷ xs) p h = by (all_inserted P k xs p h.1) (R k x)
     where

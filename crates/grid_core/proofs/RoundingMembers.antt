@@ -1,36 +1,18 @@
 -- What the lists of a rounding have, each by the laws of rising lists over its order.
-use Rattle.std.proofs.Common.{◌≡◌, refl, sym, ◌∙◌, ◌+◌, ◌<◌, arith, eq-zero-or-pos, Bool, true, false, ◌||◌, true≢false, ◌↔◌, inl, inr, List, ◌++◌, filter, flat_map, count_by, Contains, Any, IsTrue, Ordering, Less, Equal, Greater, int_cmp}
-use Rattle.std.specs.Cmp.{IsTotalOrder}
+use Rattle.std.proofs.Common.{◌≡◌, refl, sym, ◌∙◌, ◌+◌, ◌<◌, arith, eq-zero-or-pos, Bool, true, false, ◌||◌, true≢false, ◌↔◌, inl, inr, List, ◌++◌, filter, flat_map, count_by, Contains, Any, IsTrue}
 use Rattle.std.specs.List.{list_any}
-use Rattle.std.specs.Ordering.{ordering_then}
-use Rattle.std.proofs.lemmas.Cmp.{int_cmp_total, then_total, on_total}
 use Rattle.std.proofs.lemmas.List.Folds.{list_any-append}
-use Rattle.std.proofs.lemmas.Map.Lookups.{CmpEqualImpliesEq}
 use Rattle.grid_core.specs.declared.point.Point.{Point}
-use Rattle.grid_core.specs.Vector.{dot_of, point_cmp, point_eq}
-use Rattle.grid_core.specs.Segment.{Segment, direction}
+use Rattle.grid_core.specs.Vector.{point_eq}
+use Rattle.grid_core.specs.Segment.{Segment}
 use Rattle.grid_core.specs.Name.{Label, label_cmp}
 use Rattle.grid_core.specs.Edge.{EdgeEnds, edge_eq}
 use Rattle.grid_core.specs.Meets.{meets_pixel_of}
-use Rattle.grid_core.specs.Rounding.{end_points, crossing_pixels, ends_at, crossings_at, hot, along_cmp, route, route_edges, edges, HotIsCounted, RouteIsMet, bundle, EdgesAreOfRoutes, BundleIsOfRoutes}
+use Rattle.grid_core.specs.Rounding.{end_points, crossing_pixels, ends_at, crossings_at, hot, route, route_edges, edges, HotIsCounted, RouteIsMet, bundle, EdgesAreOfRoutes, BundleIsOfRoutes}
 use Rattle.grid_core.proofs.ListMembers.{counted_iff, contains_filter, any_filter, any_then, contains_map, sorted_filter, contains_flat_map}
 use Rattle.grid_core.proofs.Order.{point_total, point_exact, edge_total, edge_exact}
+use Rattle.grid_core.proofs.RouteOrder.{along_total, contains_by_product}
 use Rattle.grid_core.proofs.RisingMembers.{sorted_rising, contains_rising, any_rising, any_iff}
-
--- ---- pixels along a segment
-
-exact_then : (o l : Ordering) {P : Type 0} → (l ≡ Equal → P) → ordering_then o l ≡ Equal → P
-exact_then Less l f h = f (absurd (cc h))
-exact_then Equal l f h = f h
-exact_then Greater l f h = f (absurd (cc h))
-
--- pixels are totally ordered along a segment
-pub along_total : (s : Segment) → IsTotalOrder (along_cmp s)
-along_total s = then_total (on_total (λ h. dot_of h (direction s)) int_cmp_total) point_total
-
--- pixels of equal order along a segment are one pixel
-pub along_exact : (s : Segment) → CmpEqualImpliesEq (along_cmp s)
-along_exact s g h e = exact_then (int_cmp (dot_of g (direction s)) (dot_of h (direction s))) (point_cmp g h) (point_exact g h) e
 
 -- ---- hot pixels
 
@@ -76,7 +58,7 @@ route_is_met ss s =
     }
   where
     same : (h : Point) → Contains (route ss s) h ↔ Contains (filter (meets_pixel_of s) (hot ss)) h
-    same h = contains_rising (along_total s) (along_exact s) (filter (meets_pixel_of s) (hot ss)) h
+    same h = contains_by_product s (hot ss) h
 
     kept : (h : Point) → Contains (filter (meets_pixel_of s) (hot ss)) h ↔ (Contains (hot ss) h × IsTrue (meets_pixel_of s h))
     kept h = contains_filter (meets_pixel_of s) (hot ss) h

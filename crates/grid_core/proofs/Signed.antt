@@ -91,6 +91,10 @@ le_true a b h = grind (arith, ints)
 pub le_false : (a b : ℤ) → b <ℤ a → int_le a b ≡ false
 le_false a b h = grind (arith, ints)
 
+-- a is at most b where `a <= b` answers true
+pub from_le_true : (a b : ℤ) → int_le a b ≡ true → a ≤ℤ b
+from_le_true a b h = omega (arith, ints)
+
 -- `a <= b` is the denial of `b < a`
 pub le-not_lt : (a b : ℤ) → int_le a b ≡ not (int_lt b a)
 le-not_lt a b = grind (arith, ints)

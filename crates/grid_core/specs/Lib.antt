@@ -9,3 +9,4 @@ pub mod Meets
 pub mod Crossing
 pub mod RisingSet
 pub mod Rounding
+pub mod Laws

@@ -6,7 +6,7 @@ use Rattle.std.specs.Prelude.{◌≡◌, ℕ, ◌+◌, ◌<◌, ◌↔◌, IsTru
 use Rattle.std.specs.List.{list_any}
 use Rattle.std.specs.List.Sorted.{IsStrictlySortedBy}
 use Rattle.std.specs.declared.cmp.Ordering.{Ordering}
-use Rattle.std.specs.Ordering.{int_cmp, ordering_then}
+use Rattle.std.specs.Ordering.{int_cmp}
 use Rattle.grid_core.specs.declared.point.Point.{Point}
 use Rattle.grid_core.specs.declared.point.Vertex.{Vertex}
 use Rattle.grid_core.specs.Vector.{point_cmp, point_eq, dot_of}
@@ -63,9 +63,9 @@ hot ss = rising point_cmp (end_points ss ++ crossing_pixels ss)
 abbrev pub vertex_at : List Segment → Point → Vertex
 vertex_at ss h = record { at = h; ends = ends_at ss h; crossings = crossings_at ss h }
 
--- the order along s: by the product of the centre with the direction, and at one product by pixel
+-- the order along s: by the product of the centre with the direction
 abbrev pub along_cmp : Segment → Point → Point → Ordering
-along_cmp s g h = ordering_then (int_cmp (dot_of g (direction s)) (dot_of h (direction s))) (point_cmp g h)
+along_cmp s g h = int_cmp (dot_of g (direction s)) (dot_of h (direction s))
 
 -- the route of s: the hot pixels that s meets, in their order along s
 abbrev pub route : List Segment → Segment → List Point

@@ -20,7 +20,8 @@ mod side;
 pub use arithmetic::{cross, difference, dot, offset, product, sum, vector};
 pub use edge::Edge;
 pub use laws::{
-    bundles_are_of_routes, edges_are_of_routes, hot_pixels_are_counted, routes_are_met,
+    bundles_are_of_routes, edges_are_of_routes, hot_pixels_are_counted, meets_where_a_point_lies,
+    products_tell_pixels_apart, routes_are_met, routes_run_from_p_to_q,
 };
 pub use memory::Memory;
 pub use name::Name;
