@@ -81,12 +81,16 @@ exact_then Less l f h = f (absurd (cc h))
 exact_then Equal l f h = f h
 exact_then Greater l f h = f (absurd (cc h))
 
+-- by product and pixel, pixels are totally ordered along a segment, and those of equal order are one pixel
+pub along_and_pixel_total : (s : Segment) → IsTotalOrder (along_and_pixel_cmp s)
+along_and_pixel_total s = then_total (along_total s) point_total
+
+pub along_and_pixel_exact : (s : Segment) → CmpEqualImpliesEq (along_and_pixel_cmp s)
+along_and_pixel_exact s g h e = exact_then (along_cmp s g h) (point_cmp g h) (point_exact g h) e
+
 -- the pixels of a list that s meets are the members of the list in order
 pub contains_by_product : (s : Segment) (hs : List Point) (h : Point)
     → Contains (rising (along_cmp s) (filter (meets_pixel_of s) hs)) h ↔ Contains (filter (meets_pixel_of s) hs) h
 contains_by_product s hs h =
     subst (λ ks. Contains ks h ↔ Contains (filter (meets_pixel_of s) hs) h) (rising_by_product s hs)
-    (contains_rising (then_total (along_total s) point_total) exact (filter (meets_pixel_of s) hs) h)
-  where
-    exact : CmpEqualImpliesEq (along_and_pixel_cmp s)
-    exact g k e = exact_then (along_cmp s g k) (point_cmp g k) (point_exact g k) e
+    (contains_rising (along_and_pixel_total s) (along_and_pixel_exact s) (filter (meets_pixel_of s) hs) h)
