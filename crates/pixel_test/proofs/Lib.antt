@@ -1,0 +1,2 @@
+pub mod ConstraintPairs
+pub mod CornerTest

@@ -1,0 +1,3 @@
+pub mod BoundingBoxes
+pub mod Bounds
+pub mod Signs
