@@ -1,0 +1,8 @@
+pub mod Sets
+pub mod Tables
+pub mod Counts
+pub mod Pairs
+pub mod Steps
+pub mod RouteEdges
+pub mod Gathered
+pub mod Rounded

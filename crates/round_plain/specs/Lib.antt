@@ -1,0 +1,3 @@
+pub mod HotPixels
+pub mod Routes
+pub mod Bundles
