@@ -1,0 +1,7 @@
+use Rattle.std.proofs.Common.{rules, append_assoc}
+use Rattle.canon_write.specs.Text.{edge_line}
+use Rattle.canon_write.proofs.arrangement.push_edge_line.Goals as goal
+
+pub returns : goal.returns
+unfolding edge_line
+returns c = search (rules, append_assoc)

@@ -1,0 +1,7 @@
+use Rattle.std.proofs.Common.{rules, append_assoc}
+use Rattle.canon_write.specs.Text.{segment_text}
+use Rattle.canon_write.proofs.arrangement.push_segment.Goals as goal
+
+pub returns : goal.returns
+unfolding segment_text
+returns c = search (rules, append_assoc)

@@ -1,0 +1,7 @@
+use Rattle.std.proofs.Common.{rules, append_assoc}
+use Rattle.canon_write.specs.Text.{segments_part}
+use Rattle.canon_write.proofs.arrangement.push_segments.Goals as goal
+
+pub returns : goal.returns
+unfolding segments_part
+returns c = search (rules, append_assoc)
