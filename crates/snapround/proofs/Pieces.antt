@@ -23,7 +23,9 @@ divided_step f true b n bs h k = refl
 divided_step f false b n bs h k =
     let within : n < length bs = omega arith in
     let e : 1 + n + 1 ≡ 1 + (n + 1) = omega arith in
-    ap (put_front b) (h within) ∙ rw (e, one-add, one-add) refl
+    let front : take (1 + n) (b ∷ bs) ≡ b ∷ take n bs = rw one-add in
+    let back : drop (1 + n + 1) (b ∷ bs) ≡ drop (n + 1) bs = rw (e, one-add) in
+    ap (put_front b) (h within) ∙ rw (front, back)
 
 divided : (separator : ℕ) (f : List ℕ → List (List ℕ)) → Divides separator f → (bs : List ℕ) → piece_len separator bs < length bs → f bs ≡ take (piece_len separator bs) bs ∷ f (drop (piece_len separator bs + 1) bs)
 divided separator f d [] h = absurd (omega arith)

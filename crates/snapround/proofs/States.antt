@@ -1,6 +1,6 @@
 -- What each command keeps true of the machine's state.
 -- Serials rise along the live list, so that a new segment's place by name is the end.
-use Rattle.std.proofs.Common.{◌≡◌, ℕ, ◌+◌, ◌<◌, nat_lt, Bool, true, false, cond, List, [], ◌∷◌, ◌++◌, filter, All, Some, None, is_some, unsigned_abs, ◌⊎◌, inl, inr, ⊎_elim, ◌==◌, refl, sym, ap, ◌∙◌, arith, Less, Greater}
+use Rattle.std.proofs.Common.{◌≡◌, ℕ, ◌+◌, ◌<◌, nat_lt, Bool, true, false, cond, List, [], ◌∷◌, ◌++◌, length-append, filter, All, Some, None, is_some, unsigned_abs, ◌⊎◌, inl, inr, ⊎_elim, ◌==◌, refl, sym, ap, ◌∙◌, arith, Less, Greater}
 use Rattle.std.specs.List.{AllByRecursion}
 use Rattle.std.specs.List.Sorted.{IsStrictlySortedBy}
 use Rattle.std.proofs.lemmas.Option.{MatchOption-at_some, IfSome_then}
@@ -22,6 +22,7 @@ start_kept =
       live = record { rising = tt; within = All-nil (IsSegment 1048576) };
       drawn = All-nil (IsDrawnBy 0);
       prepared = tt;
+      counted = refl;
       commits = omega arith;
       serial = omega arith;
       inserts = omega arith;
@@ -113,6 +114,7 @@ commit_kept st s h e =
       live = record { rising = rising_push st.live s h.live.rising below; within = All-push (IsSegment 1048576) st.live s h.live.within next.within };
       drawn = All-push (IsDrawnBy st.serial) st.live s h.drawn (record { editor = ap (λ (k : Label). k.editor) next.named; serial = omega (arith, ap (λ (k : Label). k.serial) next.named) });
       prepared = tt;
+      counted = omega (arith, length-append st.live (s ∷ []), h.counted);
       commits = omega (arith, next.after.1, next.after.3);
       serial = h.serial;
       inserts = h.inserts;
@@ -125,6 +127,7 @@ prepare_kept st s h room within named =
       live = h.live;
       drawn = All-weaker (IsDrawnBy st.serial) (IsDrawnBy (st.serial + 1)) (λ t d. record { editor = d.editor; serial = omega (arith, d.serial) }) st.live h.drawn;
       prepared = record { within = within; named = named; after = (st.serial, refl, h.drawn, h.commits) };
+      counted = h.counted;
       commits = omega (arith, h.commits);
       serial = omega (arith, h.serial);
       inserts = omega arith;
@@ -137,6 +140,7 @@ refuse_kept st h room =
       live = h.live;
       drawn = h.drawn;
       prepared = IfSome_then st.prepared h.prepared (λ s n. record { within = n.within; named = n.named; after = n.after });
+      counted = h.counted;
       commits = h.commits;
       serial = omega (arith, h.serial);
       inserts = omega arith;

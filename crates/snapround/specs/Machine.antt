@@ -1,12 +1,13 @@
 -- The machine of one editor: what each line of a script changes, and the bytes of its reply.
-use Rattle.std.specs.Prelude.{◌≡◌, ℕ, ◌+◌, ◌≤◌, Bool, false, ◌||◌, nat_lt, List, [], ◌∷◌, ◌++◌, All, if◌then◌else◌, Option, Some, None, IfSome, is_some, is_none, option_and_then, unsigned_abs}
+use Rattle.std.specs.Prelude.{◌≡◌, ℕ, ◌+◌, ◌≤◌, Bool, false, ◌||◌, nat_lt, List, [], ◌∷◌, ◌++◌, length, All, if◌then◌else◌, Option, Some, None, IfSome, is_some, is_none, option_and_then, unsigned_abs}
 use Rattle.std.specs.Ordering.{is_eq}
 use Rattle.grid_core.specs.declared.point.Point.{Point}
 use Rattle.grid_core.specs.Vector.{point_cmp}
 use Rattle.grid_core.specs.Segment.{Segment, IsSegment, segment_of}
 use Rattle.grid_core.specs.LiveList.{IsLiveList, with_segment}
+use Rattle.canon_write.specs.Text.{text_of}
 use Rattle.snapround.specs.declared.script.Command.{Command}
-use Rattle.snapround.specs.declared.script.Command.TheVariants.{Insert, Commit}
+use Rattle.snapround.specs.declared.script.Command.TheVariants.{Insert, Commit, Show}
 use Rattle.snapround.specs.declared.reply.Refusal.{Refusal}
 use Rattle.snapround.specs.declared.reply.Refusal.TheVariants.{Busy, Range, Point as OnePoint}
 use Rattle.snapround.specs.Script.{command_of, lines_of}
@@ -35,12 +36,13 @@ pub record IsNext (st : State) (s : Segment) : Type 0 where
   pub named : s.name ≡ record { editor = 1; serial = st.serial }
   pub after : (n : ℕ) × (st.serial ≡ n + 1) × All (IsDrawnBy n) st.live × (st.commits ≤ n)
 
--- what holds in every state: serials rise along the live list, and there are no more commits than serials
--- and no more serials than insert lines
+-- what holds in every state: serials rise along the live list, each commit drew one segment, and there are
+-- no more commits than serials and no more serials than insert lines
 pub record IsState (st : State) : Type 0 where
   pub live : IsLiveList 1048576 st.live
   pub drawn : All (IsDrawnBy st.serial) st.live
   pub prepared : IfSome st.prepared (IsNext st)
+  pub counted : length st.live ≡ st.commits
   pub commits : st.commits ≤ st.serial
   pub serial : st.serial ≤ st.inserts
   pub inserts : st.inserts ≤ 64
@@ -81,20 +83,27 @@ abbrev pub commit_reply : State → Option Segment → List ℕ
 commit_reply st None = none_text
 commit_reply st (Some s) = commit_text (st.commits + 1)
 
+-- the arrangement of the drawing, under the number of commits
+unfoldable pub shown : State → List ℕ
+shown st = text_of st.commits st.live
+
 -- the state after a command
 abbrev pub after_command : State → Command → State
 after_command st (Insert a b) = after_insert st a b (refusal st a b)
 after_command st Commit = after_commit st st.prepared
+after_command st Show = st
 
 -- the reply to a command
 abbrev pub command_reply : State → Command → List ℕ
 command_reply st (Insert a b) = insert_reply st (refusal st a b)
 command_reply st Commit = commit_reply st st.prepared
+command_reply st Show = shown st
 
 -- each command is taken, but for an insertion that comes after 64 others
 abbrev pub allowed : State → Command → Option Command
 allowed st (Insert a b) = if nat_lt st.inserts 64 then Some (Insert a b) else None
 allowed st Commit = Some Commit
+allowed st Show = Some Show
 
 -- the command that a line gives in this state; none where the line is bad
 abbrev pub accepted : State → List ℕ → Option Command

@@ -5,7 +5,7 @@ use Rattle.std.specs.List.{list_all}
 use Rattle.std.specs.Char.{is_ascii_digit}
 use Rattle.grid_core.specs.declared.point.Point.{Point}
 use Rattle.snapround.specs.declared.script.Command.{Command}
-use Rattle.snapround.specs.declared.script.Command.TheVariants.{Insert, Commit}
+use Rattle.snapround.specs.declared.script.Command.TheVariants.{Insert, Commit, Show}
 
 -- the pieces with b in front of the first
 abbrev pub put_front : ℕ → List (List ℕ) → List (List ℕ)
@@ -50,9 +50,10 @@ insert_from (x1 ∷ y1 ∷ x2 ∷ y2 ∷ []) =
     option_and_then (λ a. option_map (λ b. Insert a b) (point_from x2 y2)) (point_from x1 y1)
 insert_from _ = None
 
--- the command of a line: `1 commit`, or `1 insert` and four whole numbers
+-- the command of a line: `1 commit`, `1 show`, or `1 insert` and four whole numbers
 abbrev pub command_of : List ℕ → Option Command
 command_of line =
     if bytes_eq line (codes "1 commit") then Some Commit
+    else if bytes_eq line (codes "1 show") then Some Show
     else if bytes_eq (take 9 line) (codes "1 insert ") then insert_from (fields_of (drop 9 line))
     else None

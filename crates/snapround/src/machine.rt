@@ -2,11 +2,17 @@
 
 ghost use Rattle.std.specs.Prelude.{◌≡◌, ◌<◌, ◌++◌, Some, None, MatchResult, IfOk, OnOk, OnErr, is_none};
 ghost use Rattle.grid_core.specs.Segment.{IsSegment};
-ghost use Rattle.snapround.specs.Machine.{start, drawn, refusal, after_insert, insert_reply, after_commit, commit_reply, after_command, command_reply, allowed, accepted, after, reply};
+ghost use Rattle.snapround.specs.Machine.{start, drawn, refusal, after_insert, insert_reply};
+ghost use Rattle.snapround.specs.Machine.{after_commit, commit_reply, after_command, command_reply};
+ghost use Rattle.snapround.specs.Machine.{shown, allowed, accepted, after, reply};
 
-use crate::reply::{Refusal, push_bad, push_commit, push_none, push_ready, push_refused};
+use crate::reply::{
+    Refusal, push_bad, push_commit, push_none, push_ready, push_refused, push_text,
+};
 use crate::script::{Command, read_line};
+use canon_write::arrangement_text;
 use grid_core::{EndFault, Memory, Name, Point, Profile, Ur};
+use round_plain::round;
 use std::alloc::Global;
 use std::marker::Model;
 
@@ -18,7 +24,7 @@ const MOST_INSERTS: u16 = 64;
 pub struct Machine {
     live: Vec<Ur>,
     prepared: Option<Ur>,
-    commits: u16,
+    commits: u32,
     serial: u16,
     inserts: u16,
 }
@@ -28,9 +34,21 @@ impl Model for Machine {
 
     ghost Value = { State };
 
-    ghost view = { λ m. record { live = m.live.items; prepared = m.prepared; commits = m.commits; serial = m.serial; inserts = m.inserts } };
+    ghost view = { λ m. record {
+      live = m.live.items;
+      prepared = m.prepared;
+      commits = m.commits;
+      serial = m.serial;
+      inserts = m.inserts;
+    } };
 
-    ghost invariant = { λ m. IsState (record { live = m.live.items; prepared = m.prepared; commits = m.commits; serial = m.serial; inserts = m.inserts }) };
+    ghost invariant = { λ m. IsState (record {
+      live = m.live.items;
+      prepared = m.prepared;
+      commits = m.commits;
+      serial = m.serial;
+      inserts = m.inserts;
+    }) };
 }
 
 impl Machine {
@@ -95,6 +113,7 @@ impl Machine {
         match command {
             Command::Insert { a, b } => self.insert(a, b, out),
             Command::Commit => self.commit(out),
+            Command::Show => self.show(out),
         }
     }
 
@@ -158,5 +177,15 @@ impl Machine {
             }
             None => push_none(out),
         }
+    }
+
+    /// The arrangement of the drawing.
+    fn show(&self, out: &mut Vec<u8>) -> Result<(), Memory>
+        ensures { OnOk result (out.new.items ≡ out.old.items ++ shown self.now) }
+    {
+        let alloc = *self.live.allocator();
+        let picture = round(alloc, &self.live)?;
+        let text = arrangement_text(alloc, self.commits, &picture)?;
+        push_text(out, &text)
     }
 }

@@ -1,7 +1,8 @@
 //! Replies: lines of text, appended to a buffer.
 
 ghost use Rattle.std.specs.Prelude.{◌≡◌, ◌++◌, OnOk, decimal};
-ghost use Rattle.snapround.specs.Reply.{refusal_word, bad_text, ready_text, refused_text, none_text, commit_text};
+ghost use Rattle.snapround.specs.Reply.{refusal_word, bad_text, ready_text, refused_text};
+ghost use Rattle.snapround.specs.Reply.{none_text, commit_text};
 
 use grid_core::Memory;
 use itoa::Buffer;
@@ -64,11 +65,11 @@ pub fn push_none(out: &mut Vec<u8>) -> Result<(), Memory>
 }
 
 /// Commit `number` is made.
-pub fn push_commit(out: &mut Vec<u8>, number: u16) -> Result<(), Memory>
+pub fn push_commit(out: &mut Vec<u8>, number: u32) -> Result<(), Memory>
     ensures { OnOk result (out.new.items ≡ out.old.items ++ commit_text number) }
 {
     push_text(out, b"1 commit ")?;
-    push_number(out, usize::from(number))?;
+    push_number(out, number as usize)?;
     push_text(out, b"\n")
 }
 
@@ -81,7 +82,7 @@ fn push_number(out: &mut Vec<u8>, number: usize) -> Result<(), Memory>
 }
 
 /// The bytes of `text`.
-fn push_text(out: &mut Vec<u8>, text: &[u8]) -> Result<(), Memory>
+pub fn push_text(out: &mut Vec<u8>, text: &[u8]) -> Result<(), Memory>
     ensures { OnOk result (out.new.items ≡ out.old.items ++ text.now) }
 {
     out.extend_from_slice(text)?;

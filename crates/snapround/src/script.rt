@@ -2,8 +2,10 @@
 //!
 //! Lines are read byte for byte: one space between two fields, and nothing else.
 
-ghost use Rattle.std.specs.Prelude.{◌≡◌, ◌↔◌, ℤ, pos, ◌-ℤ◌, ◌<◌, ◌^◌, ◌==◌, ◌∷◌, length, position, option_copied, IsNone, IfSome};
-ghost use Rattle.snapround.specs.Script.{lines_of, fields_of, further_fields, digits_of, whole_of, point_from, insert_from, command_of};
+ghost use Rattle.std.specs.Prelude.{◌≡◌, ◌↔◌, pos, ◌-ℤ◌, ◌<◌, ◌^◌, ◌==◌, ◌∷◌, length, position};
+ghost use Rattle.std.specs.Prelude.{option_copied, IsNone, IfSome};
+ghost use Rattle.snapround.specs.Script.{lines_of, fields_of, further_fields, digits_of, whole_of};
+ghost use Rattle.snapround.specs.Script.{point_from, insert_from, command_of};
 
 use grid_core::Point;
 
@@ -14,6 +16,8 @@ pub enum Command {
     Insert { a: Point, b: Point },
     /// Make the prepared change part of the drawing.
     Commit,
+    /// Show the drawing as its arrangement.
+    Show,
 }
 
 /// The first line, without its line feed, and what follows it. `None` where there is no byte.
@@ -37,6 +41,9 @@ pub fn read_line(line: &[u8]) -> Option<Command>
 {
     if line == b"1 commit".as_slice() {
         return Some(Command::Commit);
+    }
+    if line == b"1 show".as_slice() {
+        return Some(Command::Show);
     }
     read_insert(line.strip_prefix(b"1 insert ")?)
 }

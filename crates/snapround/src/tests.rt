@@ -3,66 +3,100 @@
 use crate::play::{play, top};
 use io_ports::{StdSink, StdSource, SteadySink, SteadySource};
 use std::io::{self, ErrorKind, Read, Write};
+use std::process::Abort;
 use std::test::Fail;
 
-struct Run {
-    name: &'static str,
-    input: &'static str,
-    output: &'static str,
+/// Runs `play` over memory on `input`, and looks at what it wrote and how it ended.
+fn check_run(
+    rt: &(impl Abort + AllocGlobal),
+    input: &str,
+    output: &str,
     status: u8,
+) -> Result<(), Fail> {
+    let mut source = SteadySource::new(input.as_bytes().to_vec(rt.alloc())?);
+    let mut sink = SteadySink::new(rt.alloc());
+    assert_eq!(rt; play(rt.alloc(), &mut source, &mut sink), status);
+    assert_eq!(rt; sink.bytes(), output.as_bytes());
+    Ok(())
 }
 
-static RUNS: [Run; 6] = [
-    Run {
-        name: "empty_input",
-        input: "",
-        output: "",
-        status: 0,
-    },
-    Run {
-        name: "one segment",
-        input: "1 insert 0 0 10 0\n1 commit\n",
-        output: "1 ready 1.1\n1 commit 1\n",
-        status: 0,
-    },
-    Run {
-        name: "two segments, and a last line without a line feed",
-        input: "1 insert 0 0 5 2\n1 commit\n1 insert 0 2 5 0\n1 commit",
-        output: "1 ready 1.1\n1 commit 1\n1 ready 1.2\n1 commit 2\n",
-        status: 0,
-    },
-    Run {
-        name: "refusals_and_bounds",
-        input: "1 insert 0 0 0 0\n1 insert 0 0 1048577 0\n1 insert 1048577 5 1048577 5\n\
-                1 insert 0 0 1048576 0\n1 insert 0 0 0 0\n",
-        output: "1 refused point\n1 refused range\n1 refused range\n1 ready 1.1\n1 refused busy\n",
-        status: 0,
-    },
-    Run {
-        name: "bad lines",
-        input: "1 commit\n1 take\n\n1 commit \n2 commit\n1 insert 1 2 3\n1 insert 1 2 3 4 5\n\
-                1 insert  1 2 3 4\n1 insert 1 2 3 +4\n1 insert 1 2 3 12345678901\n1 insert 1 2 3 -\n",
-        output: "1 none\nbad 2\nbad 3\nbad 4\nbad 5\nbad 6\nbad 7\nbad 8\nbad 9\nbad 10\nbad 11\n",
-        status: 1,
-    },
-    Run {
-        name: "zeros in front, and minus zero",
-        input: "1 insert -0 007 -5 0000000001\n",
-        output: "1 ready 1.1\n",
-        status: 0,
-    },
-];
+#[test]
+fn empty_input(rt: HostRuntime) -> Result<(), Fail> {
+    let input = "";
+    let output = "";
+    check_run(&rt, input, output, 0)
+}
 
 #[test]
-fn runs_over_memory(rt: HostRuntime) -> Result<(), Fail> {
-    for run in &RUNS {
-        let mut source = SteadySource::new(run.input.as_bytes().to_vec(rt.alloc())?);
-        let mut sink = SteadySink::new(rt.alloc());
-        let status = play(rt.alloc(), &mut source, &mut sink);
-        assert_eq!(rt; status, run.status, "{}", run.name);
-        assert_eq!(rt; sink.bytes(), run.output.as_bytes(), "{}", run.name);
-    }
-    Ok(())
+fn first_path_show(rt: HostRuntime) -> Result<(), Fail> {
+    let input = "1 insert 0 0 10 0\n1 commit\n1 show\n";
+    let output = "1 ready 1.1\n1 commit 1\narrangement 1\nsegments 1\n\
+                 1.1 0 0 10 0 route 2 0 0 10 0\nvertices 2\n0 0 ends 1 crossings 0\n\
+                 10 0 ends 1 crossings 0\nedges 1\n0 0 10 0 names 1 1.1\nend\n";
+    check_run(&rt, input, output, 0)
+}
+
+#[test]
+fn first_path_bad_lines(rt: HostRuntime) -> Result<(), Fail> {
+    let input = "1 commit\n1 take\n\n1 show\n";
+    let output = "1 none\nbad 2\nbad 3\narrangement 0\nsegments 0\nvertices 0\nedges 0\nend\n";
+    check_run(&rt, input, output, 1)
+}
+
+#[test]
+fn first_path_half(rt: HostRuntime) -> Result<(), Fail> {
+    let input = "1 insert 0 0 5 2\n1 commit\n1 insert 0 2 5 0\n1 commit\n1 show\n";
+    let output = "1 ready 1.1\n1 commit 1\n1 ready 1.2\n1 commit 2\narrangement 2\nsegments 2\n\
+                 1.1 0 0 5 2 route 3 0 0 3 1 5 2\n1.2 0 2 5 0 route 3 0 2 3 1 5 0\nvertices 5\n\
+                 0 0 ends 1 crossings 0\n0 2 ends 1 crossings 0\n3 1 ends 0 crossings 1\n\
+                 5 0 ends 1 crossings 0\n5 2 ends 1 crossings 0\nedges 4\n0 0 3 1 names 1 1.1\n\
+                 0 2 3 1 names 1 1.2\n3 1 5 0 names 1 1.2\n3 1 5 2 names 1 1.1\nend\n";
+    check_run(&rt, input, output, 0)
+}
+
+#[test]
+fn closed_corner(rt: HostRuntime) -> Result<(), Fail> {
+    let input = "1 insert 0 0 5 2\n1 commit\n1 insert 0 2 5 0\n1 commit\n1 show\n\
+                1 insert 2 1 3 0\n1 commit\n1 show\n";
+    let output = "1 ready 1.1\n1 commit 1\n1 ready 1.2\n1 commit 2\narrangement 2\nsegments 2\n\
+                 1.1 0 0 5 2 route 3 0 0 3 1 5 2\n1.2 0 2 5 0 route 3 0 2 3 1 5 0\nvertices 5\n\
+                 0 0 ends 1 crossings 0\n0 2 ends 1 crossings 0\n3 1 ends 0 crossings 1\n\
+                 5 0 ends 1 crossings 0\n5 2 ends 1 crossings 0\nedges 4\n0 0 3 1 names 1 1.1\n\
+                 0 2 3 1 names 1 1.2\n3 1 5 0 names 1 1.2\n3 1 5 2 names 1 1.1\nend\n\
+                 1 ready 1.3\n1 commit 3\narrangement 3\nsegments 3\n\
+                 1.1 0 0 5 2 route 4 0 0 2 1 3 1 5 2\n1.2 0 2 5 0 route 4 0 2 2 1 3 1 5 0\n\
+                 1.3 2 1 3 0 route 3 2 1 3 1 3 0\nvertices 7\n0 0 ends 1 crossings 0\n\
+                 0 2 ends 1 crossings 0\n2 1 ends 1 crossings 1\n3 0 ends 1 crossings 0\n\
+                 3 1 ends 0 crossings 1\n5 0 ends 1 crossings 0\n5 2 ends 1 crossings 0\n\
+                 edges 6\n0 0 2 1 names 1 1.1\n0 2 2 1 names 1 1.2\n\
+                 2 1 3 1 names 3 1.1 1.2 1.3\n3 0 3 1 names 1 1.3\n3 1 5 0 names 1 1.2\n\
+                 3 1 5 2 names 1 1.1\nend\n";
+    check_run(&rt, input, output, 0)
+}
+
+#[test]
+fn refusals_and_bounds(rt: HostRuntime) -> Result<(), Fail> {
+    let input = "1 insert 0 0 0 0\n1 insert 0 0 1048577 0\n1 insert 1048577 5 1048577 5\n\
+                1 insert 0 0 1048576 0\n1 insert 0 0 0 0\n";
+    let output = "1 refused point\n1 refused range\n1 refused range\n1 ready 1.1\n\
+                 1 refused busy\n";
+    check_run(&rt, input, output, 0)
+}
+
+#[test]
+fn lines_that_are_nearly_commands_are_bad(rt: HostRuntime) -> Result<(), Fail> {
+    let input = "1 commit \n 1 show\n1  show\n2 commit\n1 insert 1 2 3\n1 insert 1 2 3 4 5\n\
+                1 insert  1 2 3 4\n1 insert 1 2 3 +4\n1 insert 1 2 3 12345678901\n\
+                1 insert 1 2 3 -\n";
+    let output = "bad 1\nbad 2\nbad 3\nbad 4\nbad 5\nbad 6\nbad 7\nbad 8\nbad 9\nbad 10\n";
+    check_run(&rt, input, output, 1)
+}
+
+#[test]
+fn zeros_in_front_and_an_unended_last_line_are_taken(rt: HostRuntime) -> Result<(), Fail> {
+    let input = "1 insert -0 007 -5 0000000001\n1 commit";
+    let output = "1 ready 1.1\n1 commit 1\n";
+    check_run(&rt, input, output, 0)
 }
 
 #[test]
@@ -83,7 +117,7 @@ fn an_insert_after_64_others_is_bad(rt: HostRuntime) -> Result<(), Fail> {
     Ok(())
 }
 
-/// The status of a run on one line with these words, which the line's spaces divide.
+/// The status of a run with these words, on one bad line.
 fn status_of(rt: &HostRuntime, words: &[&str]) -> Result<u8, Fail> {
     let mut list = Vec::new(rt.alloc());
     for word in words {
