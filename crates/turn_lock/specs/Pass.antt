@@ -1,0 +1,48 @@
+-- A lock pass as clauses see it, by its seat at the words of the turn: what it knows, and whether it
+-- holds the book.
+use Rattle.std.specs.Prelude.{◌≡◌, ℕ, List, [], ◌∷◌, Option, None}
+use Rattle.atomic_table.specs.declared.shared.Seat.{Seat}
+use Rattle.atomic_table.specs.Seated.{TableId}
+use Rattle.turn_lock.specs.declared.stage.Stage.TheVariants.{Idle, Served, Has, Marked}
+use Rattle.turn_lock.specs.declared.view.View.{View}
+use Rattle.turn_lock.specs.View.{with_journal}
+
+-- the table has the three words and the one slot of a turn
+abbrev pub IsSized : TableId → Type 0
+IsSized turn = (turn.words ≡ 3) × (turn.slots ≡ 1)
+
+module _ {B E : Type 0} (p : Seat (Option B) (View E)) where
+  -- what the pass knows
+  abbrev pub known : View E
+  known = p.me.0
+
+  -- the pass holds nothing
+  abbrev pub IsIdle : Type 0
+  IsIdle = (p.me.0.stage ≡ Idle) × (p.me.1 ≡ [])
+
+  -- the pass is one of this turn, and holds nothing
+  abbrev pub IsReady : TableId → Type 0
+  IsReady turn = (p.table_id ≡ turn) × IsIdle
+
+  -- the ticket of the pass is served, and it holds nothing yet
+  abbrev pub IsServed : Type 0
+  IsServed = (t : ℕ) × (p.me.0.stage ≡ Served t) × (p.me.1 ≡ [])
+
+  -- the pass has the book, which had the history es, and did not mark yet
+  abbrev pub Holds : List E → Type 0
+  Holds es = (t : ℕ) × (p.me.0.stage ≡ Has t) × (p.me.1 ≡ (0, None) ∷ []) × (p.me.0.journal ≡ es)
+
+  -- the pass has the book, and marked the history es
+  abbrev pub HoldsMarked : List E → Type 0
+  HoldsMarked es = (t : ℕ) × (p.me.0.stage ≡ Marked t) × (p.me.1 ≡ (0, None) ∷ []) × (p.me.0.journal ≡ es)
+
+  -- q is the pass after some steps: of the same turn, and it knows the same, but for its stage and what
+  -- the book has
+  abbrev pub Stays : Seat (Option B) (View E) → Type 0
+  Stays q = (q.table_id ≡ p.table_id) × (q.me.0 ≡ with_journal q.me.0.stage q.me.0.journal p.me.0)
+
+  -- q is the pass later: of the same turn, with the same number, room, label and ended passes
+  abbrev pub IsStill : Seat (Option B) (View E) → Type 0
+  IsStill q =
+      (q.table_id ≡ p.table_id) × (q.me.0.number ≡ p.me.0.number) × (q.me.0.seats ≡ p.me.0.seats)
+      × (q.me.0.room ≡ p.me.0.room) × (q.me.0.label ≡ p.me.0.label) × (q.me.0.ended ≡ p.me.0.ended)

@@ -1,0 +1,170 @@
+//! The turn: the calls of a pass that takes the book and gives it back.
+ghost use Rattle.std.specs.Prelude.{◌≡◌, ◌<◌, ◌≤◌, [], IfOk};
+ghost use Rattle.turn_lock.specs.History.{IsPrefix, calls, GrowsBy};
+ghost use Rattle.turn_lock.specs.View.{lowered, split_from, joined, marked, first_view};
+ghost use Rattle.turn_lock.specs.Pass.{IsSized, known, IsIdle, IsReady};
+ghost use Rattle.turn_lock.specs.Pass.{Holds, HoldsMarked, Stays};
+ghost use Rattle.turn_lock.specs.Turn.{HasAll, IsLast};
+
+use crate::counted::Counted;
+use crate::pass::Pass;
+use crate::plays::SplitOff;
+use crate::rule::{BOOK, Opening, Words};
+use crate::steps::{give_back, mark_history, take_book, unite, wait_turn};
+use atomic_table::Table;
+use grid_core::Memory;
+use std::alloc::Global;
+use std::marker::Brand;
+use std::snapshot::Snapshot;
+use std::sync::Wait;
+
+/// A book that one pass at a time has, in the order in which they drew. Threads share it by `&`.
+#[derive(Drop)]
+pub struct Turn<B: Counted> {
+    /// The words and the slot. Clauses name the turn by its id.
+    pub table: Words<B>,
+    ghost sized: { IsSized table.shared.table_id },
+}
+
+/// The book while a pass has it. It is not `Drop`: end it by `leave`, or all others wait for good.
+pub struct Held<B: Counted> {
+    pub book: B,
+    /// The book at `enter`, and from `mark` on the book at `mark`, for contracts alone.
+    pub kept: Snapshot<B>,
+}
+
+impl<B: Counted> Turn<B> {
+    /// A turn for `seats` passes, and the first of them, from which the others are split.
+    pub fn open(alloc: Global, book: B, seats: u32) -> Result<(Turn<B>, Pass<B>), Memory>
+        requires seats { 1 ≤ seats }
+        requires empty { B.history book ≡ [] }
+        ensures ready { IfOk result (λ t. IsReady t.1.place t.0.table.shared.table_id) }
+        ensures first { IfOk result (λ t. known t.1.place ≡ first_view seats (B.label book)) }
+    {
+        let about = Opening {
+            seats,
+            book: Snapshot::of(&book),
+        };
+        let mut slots = Vec::with_capacity(alloc, 1)?;
+        slots.push(Some(book))?;
+        let Ok((table, place)) = Table::new(alloc, &[0, 0, 0], slots, &about) else {
+            return Err(Memory);
+        };
+        let pass = Pass {
+            place,
+            seats,
+            number: 0,
+            room: seats - 1,
+        };
+        Ok((Turn { table }, pass))
+    }
+
+    /// Waits until the turn of `pass` comes, and gives it the book.
+    pub fn enter(&self, rt: &impl Wait, pass: &mut Pass<B>) -> Held<B>
+        requires { IsReady pass.old.place self.now.table.shared.table_id }
+        ensures stays { Stays pass.old.place pass.new.place }
+        ensures holds { Holds pass.new.place (B.history result.book) }
+        ensures seen { IsPrefix (known pass.old.place).seen (B.history result.book) }
+        ensures mine { let v = known pass.old.place in
+            calls (B.author v.label) v.number (B.history result.book) ≡ v.mine }
+        ensures label { B.label result.book ≡ (known pass.old.place).label }
+        ensures kept { result.kept.value ≡ result.book }
+    {
+        wait_turn(rt, &self.table.shared, &mut pass.place);
+        let book = take_book(&self.table.shared, &mut pass.place);
+        let kept = Snapshot::of(&book);
+        Held { book, kept }
+    }
+
+    /// Tells that the history has grown by one entry of `pass` where `up`, and that it is as it
+    /// was where not. The pass has then seen all of it.
+    pub fn mark(&self, pass: &mut Pass<B>, held: &mut Held<B>, up: bool)
+        requires own { pass.old.place.table_id ≡ self.now.table.shared.table_id }
+        requires holds { Holds pass.old.place (B.history held.old.kept.value) }
+        requires grows { let v = known pass.old.place in
+            let kept = B.history held.old.kept.value in
+            GrowsBy (B.author v.label) v.number up kept (B.history held.old.book) }
+        ensures own { pass.new.place.table_id ≡ pass.old.place.table_id }
+        ensures holds { HoldsMarked pass.new.place (B.history held.new.kept.value) }
+        ensures seen { let v = known pass.new.place in
+            v ≡ marked v.stage (B.history held.old.book) (known pass.old.place) }
+        ensures book { held.new.book ≡ held.old.book }
+        ensures kept { held.new.kept.value ≡ held.old.book }
+    {
+        mark_history::<B, Brand>(&self.table.shared, &mut pass.place, &held.book, up);
+        held.kept = Snapshot::of(&held.book);
+    }
+
+    /// Gives the book back as it was at `mark`, and passes the turn on.
+    pub fn leave(&self, pass: &mut Pass<B>, held: Held<B>)
+        requires own { pass.old.place.table_id ≡ self.now.table.shared.table_id }
+        requires holds { HoldsMarked pass.old.place (B.history held.kept.value) }
+        requires history { B.history held.book ≡ B.history held.kept.value }
+        requires label { B.label held.book ≡ (known pass.old.place).label }
+        ensures stays { Stays pass.old.place pass.new.place }
+        ensures idle { IsIdle pass.new.place }
+    {
+        let Held { book, kept: _ } = held;
+        give_back(&self.table.shared, &mut pass.place, book);
+    }
+
+    /// A new pass, which has seen what `pass` has, and has added nothing.
+    pub fn split(&self, pass: &mut Pass<B>) -> Pass<B>
+        requires own { pass.old.place.table_id ≡ self.now.table.shared.table_id }
+        requires room { 0 < (known pass.old.place).room }
+        ensures own { pass.new.place.table_id ≡ pass.old.place.table_id }
+        ensures room { pass.new.place.me ≡ (lowered (known pass.old.place), pass.old.place.me.1) }
+        ensures ready { IsReady result.place self.now.table.shared.table_id }
+        ensures new { known result.place ≡ split_from (known pass.old.place) }
+    {
+        let place = self.table.shared.split_seat::<SplitOff>(&mut pass.place);
+        let number = pass.seats - pass.room;
+        pass.room -= 1;
+        Pass {
+            place,
+            seats: pass.seats,
+            number,
+            room: 0,
+        }
+    }
+
+    /// Ends the pass `other`. `pass` has then seen what either had seen, and keeps the calls of
+    /// `other` beside its own.
+    pub fn join(&self, pass: &mut Pass<B>, other: Pass<B>)
+        requires ready { IsReady pass.old.place self.now.table.shared.table_id }
+        requires other { IsReady other.place self.now.table.shared.table_id }
+        ensures ready { IsReady pass.new.place self.now.table.shared.table_id }
+        ensures joined { let v = known pass.old.place in
+            known pass.new.place ≡ joined v (known other.place) }
+        ensures seen { IsPrefix (known pass.old.place).seen (known pass.new.place).seen }
+        ensures seen_too { IsPrefix (known other.place).seen (known pass.new.place).seen }
+    {
+        let Pass {
+            place,
+            seats: _,
+            number: _,
+            room,
+        } = other;
+        unite(&self.table.shared, &mut pass.place, place);
+        pass.room += room;
+    }
+
+    /// Ends the turn with the last pass, and gives the book.
+    pub fn close(self, pass: Pass<B>) -> B
+        requires ready { IsReady pass.place self.table.shared.table_id }
+        requires all { HasAll (known pass.place) }
+        ensures { IsLast B.history B.author B.label (known pass.place) result }
+    {
+        let Turn { table } = self;
+        let Pass {
+            place,
+            seats: _,
+            number: _,
+            room: _,
+        } = pass;
+        let mut closed = table.close_with(place);
+        let book = closed.take(BOOK);
+        closed.free();
+        book.unwrap()
+    }
+}
