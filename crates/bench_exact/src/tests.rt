@@ -1,7 +1,7 @@
 use crate::cases::draw_cases;
 use grid_core::{Name, Point, Profile, Ur};
 use pixel_test::meets_pixel;
-use rat_cross::crossing;
+use rat_cross::{Cross, crossing};
 use std::alloc::AllocError;
 
 /// A constraint on a number t: `a + b t >= 0`, or `> 0` where it is strict.
@@ -80,7 +80,7 @@ fn plain_meets(s: &Ur, at: Point) -> bool {
 }
 
 /// The crossing of two segments, by its formula: numerators and denominator.
-fn plain_crossing(s: &Ur, t: &Ur) -> Option<[i64; 3]> {
+fn plain_crossing(s: &Ur, t: &Ur) -> Option<(i128, i128, i128)> {
     let (d, e) = (plain_minus(s.q(), s.p()), plain_minus(t.q(), t.p()));
     let w = plain_minus(t.p(), s.p());
     let sign = plain_cross(d, e).signum();
@@ -95,7 +95,13 @@ fn plain_crossing(s: &Ur, t: &Ur) -> Option<[i64; 3]> {
     }
     let x = s.p().x.wrapping_mul(den).wrapping_add(u.wrapping_mul(d.x));
     let y = s.p().y.wrapping_mul(den).wrapping_add(u.wrapping_mul(d.y));
-    Some([x, y, den])
+    Some((i128::from(x), i128::from(y), i128::from(den)))
+}
+
+/// The numerators and the denominator of a crossing.
+fn numbers(c: Option<Cross>) -> Option<(i128, i128, i128)> {
+    let c = c?;
+    Some((c.num_x(), c.num_y(), c.den()))
 }
 
 /// Each small segment from (0, 0) or (0, 1) to another point of a grid of 5 by 5.
@@ -146,15 +152,7 @@ fn crossings_are_those_of_the_formula(rt: HostRuntime) -> Result<(), AllocError>
     for step in [1usize, 2, 3, 4] {
         for (case, other) in cases.iter().zip(cases.iter().skip(step)) {
             let (s, t) = (&case.segment, &other.segment);
-            match (crossing(s, t), plain_crossing(s, t)) {
-                (Some(c), Some([x, y, den])) => {
-                    assert_eq!(rt; c.num_x(), i128::from(x));
-                    assert_eq!(rt; c.num_y(), i128::from(y));
-                    assert_eq!(rt; c.den(), i128::from(den));
-                }
-                (None, None) => {}
-                _ => panic!(rt; "one of the two finds no crossing"),
-            }
+            assert_eq!(rt; numbers(crossing(s, t)), plain_crossing(s, t));
         }
     }
     Ok(())
