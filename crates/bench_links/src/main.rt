@@ -1,0 +1,157 @@
+//! Links, copies and walks the passes of a tile with 16 segments and 256 pixels, to be timed from
+//! outside: it prints counts, and never times. Its first word is the number of rounds, its second
+//! the work: `link`, `copy` or `walk`.
+#![tactic(auto)]
+
+use grid_core::{Memory, Name, Point};
+use pass_links::Passes;
+use std::alloc::Global;
+use std::{env, io};
+
+/// The segments of the tile.
+const SEGMENTS: u16 = 16;
+
+/// The pixels of the tile. Each segment passes through every fourth.
+const PIXELS: u16 = 256;
+
+/// The passes of the tile.
+const PASSES: usize = 1024;
+
+/// What is done in each round.
+#[derive(Clone, Copy)]
+enum Work {
+    /// A tile is linked, and then unlinked by pixels and by segments.
+    Link,
+    /// A tile is copied, and one list of the copy is walked.
+    Copy,
+    /// All lists of a tile are walked.
+    Walk,
+}
+
+/// The number that a word is.
+fn number(word: Option<String>) -> Option<u32> {
+    word?.as_str().parse().ok()
+}
+
+/// The work that a word names.
+fn work_of(word: Option<String>) -> Option<Work> {
+    let word = word?;
+    match word.as_str() {
+        "link" => Some(Work::Link),
+        "copy" => Some(Work::Copy),
+        "walk" => Some(Work::Walk),
+        _ => None,
+    }
+}
+
+fn pixel_of(pixel: u16) -> Point {
+    Point {
+        x: i64::from(pixel / 16),
+        y: i64::from(pixel % 16),
+    }
+}
+
+/// Links the passes of one segment, each behind the one before. Gives their number.
+fn link_segment(passes: &mut Passes, name: Name, segment: u16) -> u64 {
+    let mut linked: u64 = 0;
+    let mut after = None;
+    for pixel in 0..PIXELS {
+        let at = pixel_of(pixel);
+        let through = pixel % 4 == segment % 4;
+        if through && passes.spare() > 0 && !passes.has(name, at) {
+            let before = after.filter(|before| passes.has(name, *before));
+            passes.link_between(name, at, before);
+            after = Some(at);
+            linked = linked.wrapping_add(1);
+        }
+    }
+    linked
+}
+
+/// Links the passes of the tile. Gives their number.
+fn link_all(passes: &mut Passes) -> u64 {
+    let mut linked: u64 = 0;
+    for segment in 0..SEGMENTS {
+        if let Some(name) = Name::new(1, segment + 1) {
+            linked = linked.wrapping_add(link_segment(passes, name, segment));
+        }
+    }
+    linked
+}
+
+/// The sum of the names of a pixel's list, by their serial numbers.
+fn walk_across(passes: &Passes, pixel: Point) -> u64 {
+    let mut sum: u64 = 0;
+    for name in passes.across(pixel) {
+        sum = sum.wrapping_add(u64::from(name.serial()));
+    }
+    sum
+}
+
+/// The number of the pixels of a segment's list.
+fn walk_along(passes: &Passes, name: Name) -> u64 {
+    let mut count: u64 = 0;
+    for _pixel in passes.along(name) {
+        count = count.wrapping_add(1);
+    }
+    count
+}
+
+/// The sum over all lists of the tile.
+fn walk_all(passes: &Passes) -> u64 {
+    let mut sum: u64 = 0;
+    for segment in 0..SEGMENTS {
+        if let Some(name) = Name::new(1, segment + 1) {
+            sum = sum.wrapping_add(walk_along(passes, name));
+        }
+    }
+    for pixel in 0..PIXELS {
+        sum = sum.wrapping_add(walk_across(passes, pixel_of(pixel)));
+    }
+    sum
+}
+
+/// A tile is linked and unlinked. Gives the number of passes, and what is left of them.
+fn link_round(alloc: Global) -> Result<u64, Memory> {
+    let mut passes = Passes::open(alloc);
+    passes.reserve(PASSES)?;
+    let linked = link_all(&mut passes);
+    for pixel in 0..PIXELS / 2 {
+        passes.unlink_pixel(pixel_of(pixel));
+    }
+    for segment in 0..SEGMENTS {
+        if let Some(name) = Name::new(1, segment + 1) {
+            passes.unlink_segment(name);
+        }
+    }
+    Ok(linked.wrapping_add(walk_all(&passes)))
+}
+
+/// The sum over so many rounds of the work.
+fn run(alloc: Global, work: Work, rounds: u32) -> Result<u64, Memory> {
+    let mut passes = Passes::open(alloc);
+    passes.reserve(PASSES)?;
+    link_all(&mut passes);
+    let mut total: u64 = 0;
+    for _round in 0..rounds {
+        let part = match work {
+            Work::Link => link_round(alloc)?,
+            Work::Copy => walk_across(&passes.copy()?, pixel_of(4)),
+            Work::Walk => walk_all(&passes),
+        };
+        total = total.wrapping_add(part);
+    }
+    Ok(total)
+}
+
+fn main(rt: HostRuntime) -> io::Result<()> {
+    let mut words = env::args(&rt)?;
+    words.next();
+    let (Some(rounds), Some(work)) = (number(words.next()), work_of(words.next())) else {
+        return Err(io::Error::from(io::ErrorKind::InvalidInput));
+    };
+    let Ok(total) = run(rt.alloc(), work, rounds) else {
+        return Err(io::Error::from(io::ErrorKind::OutOfMemory));
+    };
+    println!(&rt; "{rounds} rounds: {total}")
+}

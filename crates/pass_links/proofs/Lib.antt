@@ -1,0 +1,6 @@
+mod FilterLaws
+mod RunLaws
+mod PassOrder
+mod PlaceLaws
+mod LinkedLaws
+mod FilingLaws

@@ -1,0 +1,294 @@
+-- The two families of lists agree when they are empty, when a pass is linked, and when the passes of
+-- a pixel or of a segment are unlinked. Lists are followed through what stands in them, never through
+-- how they are kept.
+use Rattle.std.proofs.Common.{◌≡◌, refl, ap, sym, ◌∙◌, subst, ◌+◌, ◌≤◌, arith, Bool, true, false, cond, not, ◌&&◌, ◌||◌, true≢false, List, [], ◌∷◌, ◌++◌, Ordering, Less, Equal, Greater, is_lt, is_eq, Option, None, Some}
+use Rattle.std.specs.Prelude.{filter, count_by}
+use Rattle.std.specs.Cmp.{IsTotalOrder}
+use Rattle.std.specs.List.{list_any, AllByRecursion}
+use Rattle.std.specs.List.Sorted.{IsStrictlySortedBy}
+use Rattle.std.specs.Ordering.{ordering_reverse, eq_by_cmp}
+use Rattle.std.proofs.lemmas.Cmp.{alike_right, eq_by_cmp_equiv}
+use Rattle.std.proofs.lemmas.List.Kept.{IsStrictlySortedBy-filter}
+use Rattle.std.proofs.lemmas.List.Sums.{sum_by-cons}
+use Rattle.grid_core.specs.declared.point.Point.{Point}
+use Rattle.grid_core.specs.Vector.{point_eq}
+use Rattle.grid_core.specs.Name.{Label, label_cmp, label_eq}
+use Rattle.grid_core.proofs.Order.{point_total, point_exact, label_total, label_exact}
+use Rattle.pass_links.specs.Passes.{has_pixel, has_name, put_behind, linked_behind, with_name, AreLinked}
+use Rattle.pass_links.proofs.RunLaws.{is_less, is_equal}
+
+-- ---- tests
+
+or_swapped : (a b c : Bool) → (a || (b || c)) ≡ (b || (a || c))
+or_swapped true true c = refl
+or_swapped true false c = refl
+or_swapped false true c = refl
+or_swapped false false c = refl
+
+or_regrouped : (a b c : Bool) → ((a || b) || c) ≡ (a || (b || c))
+or_regrouped true b c = refl
+or_regrouped false b c = refl
+
+left_first : (a b q rest whole : Bool) → (b || (q || rest)) ≡ (q || whole) → ((a || b) || (q || rest)) ≡ (q || (a || whole))
+left_first a b q rest whole e = or_regrouped a b (q || rest) ∙ ap (λ t. a || t) e ∙ or_swapped a q whole
+
+right_first : (a b q rest whole : Bool) → (b || (q || rest)) ≡ (q || whole) → (b || (q || (a || rest))) ≡ (q || (a || whole))
+right_first a b q rest whole e =
+    ap (λ t. b || t) (or_swapped q a rest) ∙ or_swapped b a (q || rest) ∙ ap (λ t. a || t) e ∙ or_swapped a q whole
+
+or_again : (q whole : Bool) → (q || whole) ≡ (q || (q || whole))
+or_again true whole = refl
+or_again false whole = refl
+
+taken_out : (a b c : Bool) → (c ≡ true → a ≡ false) → (a || (b && not c)) ≡ ((a || b) && not c)
+taken_out true b true h = absurd (true≢false (h refl))
+taken_out true b false h = refl
+taken_out false b c h = refl
+
+out_again : (b c : Bool) → (b && not c) ≡ ((c || b) && not c)
+out_again true true = refl
+out_again true false = refl
+out_again false true = refl
+out_again false false = refl
+
+-- ---- what stands in a list
+
+any_append : {X : Type 0} (p : X → Bool) (xs ys : List X) → list_any p (xs ++ ys) ≡ (list_any p xs || list_any p ys)
+any_append p [] ys = refl
+any_append p (x ∷ xs) ys = ap (λ b. p x || b) (any_append p xs ys) ∙ sym (or_regrouped (p x) (list_any p xs) (list_any p ys))
+
+count_none : {X : Type 0} (p : X → Bool) (xs : List X) → list_any p xs ≡ false → count_by p xs ≡ 0
+count_none p [] h = refl
+count_none p (x ∷ xs) h = by (count_none p xs) (p x) refl
+  where
+    by : (list_any p xs ≡ false → count_by p xs ≡ 0) → (b : Bool) → p x ≡ b → count_by p (x ∷ xs) ≡ 0
+    by rest true e = absurd (true≢false (sym (ap (λ b. b || list_any p xs) e) ∙ h))
+    by rest false e =
+        sum_by-cons (λ y. cond (p y) 1 0) x xs ∙ (λ i. ap (λ b. cond b 1 0) e i + rest (sym (ap (λ b. b || list_any p xs) e) ∙ h) i)
+
+count_filter : {X : Type 0} (p q : X → Bool) (xs : List X) → count_by p (filter q xs) ≤ count_by p xs
+count_filter p q [] = omega arith
+count_filter p q (x ∷ xs) = by (count_filter p q xs) (q x)
+  where
+    by : count_by p (filter q xs) ≤ count_by p xs → (b : Bool) → count_by p (cond b (x ∷ filter q xs) (filter q xs)) ≤ count_by p (x ∷ xs)
+    by rest true = omega (arith, sum_by-cons (λ y. cond (p y) 1 0) x xs, sum_by-cons (λ y. cond (p y) 1 0) x (filter q xs))
+    by rest false = omega (arith, sum_by-cons (λ y. cond (p y) 1 0) x xs)
+
+module _ {K : Type 0} {R : K → K → Ordering} (o : IsTotalOrder R) where
+  -- what is equal to the key k, all taken out
+  pub any_without : (n k : K) (ks : List K) → list_any (eq_by_cmp R n) (filter (λ m. not (eq_by_cmp R m k)) ks) ≡ (list_any (eq_by_cmp R n) ks && not (eq_by_cmp R n k))
+  any_without n k [] = refl
+  any_without n k (m ∷ ms) = by (any_without n k ms) (eq_by_cmp R m k) refl
+    where
+      apart : eq_by_cmp R m k ≡ false → eq_by_cmp R n k ≡ true → eq_by_cmp R n m ≡ false
+      apart e t = ap is_eq (o.congr n k m (is_equal _ t)) ∙ (eq_by_cmp_equiv o).symm k m ∙ e
+
+      by : list_any (eq_by_cmp R n) (filter (λ j. not (eq_by_cmp R j k)) ms) ≡ (list_any (eq_by_cmp R n) ms && not (eq_by_cmp R n k))
+          → (b : Bool) → eq_by_cmp R m k ≡ b
+          → list_any (eq_by_cmp R n) (cond (not b) (m ∷ filter (λ j. not (eq_by_cmp R j k)) ms) (filter (λ j. not (eq_by_cmp R j k)) ms))
+          ≡ ((eq_by_cmp R n m || list_any (eq_by_cmp R n) ms) && not (eq_by_cmp R n k))
+      by rest true e =
+          rest ∙ out_again (list_any (eq_by_cmp R n) ms) (eq_by_cmp R n k)
+          ∙ ap (λ r. (is_eq r || list_any (eq_by_cmp R n) ms) && not (eq_by_cmp R n k)) (sym (alike_right o m k n (is_equal _ e)))
+      by rest false e =
+          ap (λ b. eq_by_cmp R n m || b) rest ∙ taken_out (eq_by_cmp R n m) (list_any (eq_by_cmp R n) ms) (eq_by_cmp R n k) (apart e)
+
+  any_in_parts : (n k : K) (ks : List K)
+      → (list_any (eq_by_cmp R n) (filter (λ m. is_lt (R m k)) ks) || (eq_by_cmp R n k || list_any (eq_by_cmp R n) (filter (λ m. is_lt (R k m)) ks)))
+      ≡ (eq_by_cmp R n k || list_any (eq_by_cmp R n) ks)
+  any_in_parts n k [] = refl
+  any_in_parts n k (m ∷ ms) = by (any_in_parts n k ms) (R m k) refl (R k m) (o.antisymm k m)
+    where
+      low : List K
+      low = filter (λ j. is_lt (R j k)) ms
+
+      high : List K
+      high = filter (λ j. is_lt (R k j)) ms
+
+      by : (list_any (eq_by_cmp R n) low || (eq_by_cmp R n k || list_any (eq_by_cmp R n) high)) ≡ (eq_by_cmp R n k || list_any (eq_by_cmp R n) ms)
+          → (r : Ordering) → R m k ≡ r → (s : Ordering) → s ≡ ordering_reverse (R m k)
+          → (list_any (eq_by_cmp R n) (cond (is_lt r) (m ∷ low) low) || (eq_by_cmp R n k || list_any (eq_by_cmp R n) (cond (is_lt s) (m ∷ high) high)))
+          ≡ (eq_by_cmp R n k || (eq_by_cmp R n m || list_any (eq_by_cmp R n) ms))
+      by rest Less e s f =
+          ap (λ t. list_any (eq_by_cmp R n) (m ∷ low) || (eq_by_cmp R n k || list_any (eq_by_cmp R n) (cond (is_lt t) (m ∷ high) high))) (f ∙ ap ordering_reverse e)
+          ∙ left_first (eq_by_cmp R n m) (list_any (eq_by_cmp R n) low) (eq_by_cmp R n k) (list_any (eq_by_cmp R n) high) (list_any (eq_by_cmp R n) ms) rest
+      by rest Equal e s f =
+          ap (λ t. list_any (eq_by_cmp R n) low || (eq_by_cmp R n k || list_any (eq_by_cmp R n) (cond (is_lt t) (m ∷ high) high))) (f ∙ ap ordering_reverse e)
+          ∙ rest ∙ or_again (eq_by_cmp R n k) (list_any (eq_by_cmp R n) ms)
+          ∙ ap (λ t. eq_by_cmp R n k || (is_eq t || list_any (eq_by_cmp R n) ms)) (sym (alike_right o m k n e))
+      by rest Greater e s f =
+          ap (λ t. list_any (eq_by_cmp R n) low || (eq_by_cmp R n k || list_any (eq_by_cmp R n) (cond (is_lt t) (m ∷ high) high))) (f ∙ ap ordering_reverse e)
+          ∙ right_first (eq_by_cmp R n m) (list_any (eq_by_cmp R n) low) (eq_by_cmp R n k) (list_any (eq_by_cmp R n) high) (list_any (eq_by_cmp R n) ms) rest
+
+  -- the key k put into its place
+  pub any_in_place : (n k : K) (ks : List K)
+      → list_any (eq_by_cmp R n) (filter (λ m. is_lt (R m k)) ks ++ k ∷ filter (λ m. is_lt (R k m)) ks) ≡ (eq_by_cmp R n k || list_any (eq_by_cmp R n) ks)
+  any_in_place n k ks =
+      any_append (eq_by_cmp R n) (filter (λ m. is_lt (R m k)) ks) (k ∷ filter (λ m. is_lt (R k m)) ks) ∙ any_in_parts n k ks
+
+  around : (P : K → Type 0) (xs : List K) (x : K) (ys : List K) → AllByRecursion P xs → P x → AllByRecursion P ys → AllByRecursion P (xs ++ x ∷ ys)
+  around P [] x ys a p b = (p, b)
+  around P (z ∷ xs) x ys a p b = (a.0, around P xs x ys a.1 p b)
+
+  later : (k x : K) (ys : List K) → R k x ≡ Less → AllByRecursion (λ y. R x y ≡ Less) ys → AllByRecursion (λ y. R k y ≡ Less) ys
+  later k x [] e h = tt
+  later k x (y ∷ ys) e h = (o.trans k x y e h.0, later k x ys e h.1)
+
+  all_kept : (P : K → Type 0) (p : K → Bool) → ((x : K) → p x ≡ true → P x) → (xs : List K) → AllByRecursion P (filter p xs)
+  all_kept P p h [] = tt
+  all_kept P p h (x ∷ xs) = by (all_kept P p h xs) (p x) refl
+    where
+      by : AllByRecursion P (filter p xs) → (b : Bool) → p x ≡ b → AllByRecursion P (cond b (x ∷ filter p xs) (filter p xs))
+      by rest true e = (h x e, rest)
+      by rest false e = rest
+
+  sorted_around : (xs : List K) (x : K) (ys : List K) → IsStrictlySortedBy R xs → AllByRecursion (λ k. R k x ≡ Less) xs
+      → AllByRecursion (λ k. R x k ≡ Less) ys → IsStrictlySortedBy R ys → IsStrictlySortedBy R (xs ++ x ∷ ys)
+  unfolding IsStrictlySortedBy
+  sorted_around [] x ys s a b t = (b, t)
+  sorted_around (z ∷ xs) x ys s a b t = (around (λ y. R z y ≡ Less) xs x ys s.0 a.0 (later z x ys a.0 b), sorted_around xs x ys s.1 a.1 b t)
+
+  -- a rising list with the key k in its place still rises
+  pub rises_in_place : (k : K) (ks : List K) → IsStrictlySortedBy R ks → IsStrictlySortedBy R (filter (λ m. is_lt (R m k)) ks ++ k ∷ filter (λ m. is_lt (R k m)) ks)
+  rises_in_place k ks s =
+      sorted_around (filter (λ m. is_lt (R m k)) ks) k (filter (λ m. is_lt (R k m)) ks)
+      (IsStrictlySortedBy-filter R (λ m. is_lt (R m k)) ks s)
+      (all_kept (λ m. R m k ≡ Less) (λ m. is_lt (R m k)) (λ m h. is_less _ h) ks)
+      (all_kept (λ m. R k m ≡ Less) (λ m. is_lt (R k m)) (λ m h. is_less _ h) ks)
+      (IsStrictlySortedBy-filter R (λ m. is_lt (R k m)) ks s)
+
+-- a pixel put behind another
+has_put : (p after x : Point) (ps : List Point) → has_pixel (put_behind after x ps) p ≡ (point_eq p x || has_pixel ps p)
+has_put p after x [] = refl
+has_put p after x (q ∷ ps) = by (has_put p after x ps) (point_eq after q)
+  where
+    by : has_pixel (put_behind after x ps) p ≡ (point_eq p x || has_pixel ps p)
+        → (b : Bool) → has_pixel (cond b (q ∷ x ∷ ps) (q ∷ put_behind after x ps)) p ≡ (point_eq p x || (point_eq p q || has_pixel ps p))
+    by rest true = or_swapped (point_eq p q) (point_eq p x) (has_pixel ps p)
+    by rest false = ap (λ b. point_eq p q || b) rest ∙ or_swapped (point_eq p q) (point_eq p x) (has_pixel ps p)
+
+has_linked : (p : Point) (after : Option Point) (x : Point) (ps : List Point) → has_pixel (linked_behind after x ps) p ≡ (point_eq p x || has_pixel ps p)
+has_linked p None x ps = refl
+has_linked p (Some after) x ps = has_put p after x ps
+
+count_put : (p after x : Point) (ps : List Point) → count_by (point_eq p) (put_behind after x ps) ≡ cond (point_eq p x) 1 0 + count_by (point_eq p) ps
+count_put p after x [] = sum_by-cons (λ q. cond (point_eq p q) 1 0) x []
+count_put p after x (q ∷ ps) = by (count_put p after x ps) (point_eq after q)
+  where
+    more : (y : Point) (ys : List Point) → count_by (point_eq p) (y ∷ ys) ≡ cond (point_eq p y) 1 0 + count_by (point_eq p) ys
+    more y ys = sum_by-cons (λ q. cond (point_eq p q) 1 0) y ys
+
+    by : count_by (point_eq p) (put_behind after x ps) ≡ cond (point_eq p x) 1 0 + count_by (point_eq p) ps
+        → (b : Bool) → count_by (point_eq p) (cond b (q ∷ x ∷ ps) (q ∷ put_behind after x ps)) ≡ cond (point_eq p x) 1 0 + count_by (point_eq p) (q ∷ ps)
+    by rest true = omega (arith, more q (x ∷ ps), more x ps, more q ps)
+    by rest false = omega (arith, rest, more q (put_behind after x ps), more q ps)
+
+count_linked : (p : Point) (after : Option Point) (x : Point) (ps : List Point) → count_by (point_eq p) (linked_behind after x ps) ≡ cond (point_eq p x) 1 0 + count_by (point_eq p) ps
+count_linked p None x ps = sum_by-cons (λ q. cond (point_eq p q) 1 0) x ps
+count_linked p (Some after) x ps = count_put p after x ps
+
+-- ---- the two families
+
+-- two families with the same lists
+pub linked_same : {f f' : Label → List Point} {g g' : Point → List Label} → AreLinked f g → ((n : Label) → f' n ≡ f n) → ((p : Point) → g' p ≡ g p) → AreLinked f' g'
+linked_same h s t = record {
+  agree = λ n p. ap (λ l. has_pixel l p) (s n) ∙ h.agree n p ∙ sym (ap (λ l. has_name l n) (t p));
+  once = λ n p. subst (λ l. count_by (point_eq p) l ≤ 1) (sym (s n)) (h.once n p);
+  rise = λ p. subst (IsStrictlySortedBy label_cmp) (sym (t p)) (h.rise p);
+}
+
+no_names : IsStrictlySortedBy label_cmp []
+unfolding IsStrictlySortedBy
+no_names = tt
+
+none_linked : AreLinked (λ _. []) (λ _. [])
+none_linked = record { agree = λ n p. refl; once = λ n p. omega arith; rise = λ p. no_names }
+
+-- nothing is linked
+pub linked_empty : {f : Label → List Point} {g : Point → List Label} → ((n : Label) → f n ≡ []) → ((p : Point) → g p ≡ []) → AreLinked f g
+linked_empty s t = linked_same {f = λ _. []} {g = λ _. []} none_linked s t
+
+more_linked : (a c x y x' y' : Bool) → x ≡ y → (a ≡ true → x' ≡ (c || x)) → (a ≡ false → x' ≡ x) → (c ≡ true → y' ≡ (a || y)) → (c ≡ false → y' ≡ y) → x' ≡ y'
+more_linked true true x y x' y' e s t u v = s refl ∙ sym (u refl)
+more_linked true false x y x' y' e s t u v = s refl ∙ e ∙ sym (v refl)
+more_linked false true x y x' y' e s t u v = t refl ∙ e ∙ sym (u refl)
+more_linked false false x y x' y' e s t u v = t refl ∙ e ∙ sym (v refl)
+
+fewer_linked : (c x y x' y' : Bool) → x ≡ y → x' ≡ (x && not c) → (c ≡ true → y' ≡ false) → (c ≡ false → y' ≡ y) → x' ≡ y'
+fewer_linked true true y x' y' e s u v = s ∙ sym (u refl)
+fewer_linked true false y x' y' e s u v = s ∙ sym (u refl)
+fewer_linked false true y x' y' e s u v = s ∙ e ∙ sym (v refl)
+fewer_linked false false y x' y' e s u v = s ∙ e ∙ sym (v refl)
+
+-- one pass more
+pub linked_more : {f f' : Label → List Point} {g g' : Point → List Label} (name : Label) (pixel : Point) (after : Option Point) → AreLinked f g
+    → has_pixel (f name) pixel ≡ false → f' name ≡ linked_behind after pixel (f name) → ((n : Label) → label_eq n name ≡ false → f' n ≡ f n)
+    → g' pixel ≡ with_name name (g pixel) → ((p : Point) → point_eq p pixel ≡ false → g' p ≡ g p) → AreLinked f' g'
+linked_more {f} {f'} {g} {g'} name pixel after h fresh segment segments at others = record {
+  agree = λ n p.
+      more_linked (label_eq n name) (point_eq p pixel) (has_pixel (f n) p) (has_name (g p) n) (has_pixel (f' n) p) (has_name (g' p) n) (h.agree n p)
+      (λ e. let same : n ≡ name = label_exact n name (is_equal _ e) in
+      ap (λ m. has_pixel (f' m) p) same ∙ ap (λ l. has_pixel l p) segment ∙ has_linked p after pixel (f name) ∙ ap (λ m. point_eq p pixel || has_pixel (f m) p) (sym same))
+      (λ e. ap (λ l. has_pixel l p) (segments n e))
+      (λ e. let same : p ≡ pixel = point_exact p pixel (is_equal _ e) in
+      ap (λ q. has_name (g' q) n) same ∙ ap (λ l. has_name l n) at ∙ any_in_place label_total n name (g pixel) ∙ ap (λ q. label_eq n name || has_name (g q) n) (sym same))
+      (λ e. ap (λ l. has_name l n) (others p e));
+  once = λ n p. once n p (label_eq n name) refl (point_eq p pixel) refl;
+  rise = λ p. rise p (point_eq p pixel) refl;
+}
+  where
+    once : (n : Label) (p : Point) (a : Bool) → label_eq n name ≡ a → (c : Bool) → point_eq p pixel ≡ c → count_by (point_eq p) (f' n) ≤ 1
+    once n p false e c d = subst (λ l. count_by (point_eq p) l ≤ 1) (sym (segments n e)) (h.once n p)
+    once n p true e false d =
+        let same : f' n ≡ linked_behind after pixel (f name) = ap f' (label_exact n name (is_equal _ e)) ∙ segment in
+        let counted : count_by (point_eq p) (linked_behind after pixel (f name)) ≡ count_by (point_eq p) (f name) =
+        count_linked p after pixel (f name) ∙ ap (λ b. cond b 1 0 + count_by (point_eq p) (f name)) d ∙ omega arith in
+        subst (λ l. count_by (point_eq p) l ≤ 1) (sym same) (subst (λ k. k ≤ 1) (sym counted) (h.once name p))
+    once n p true e true d =
+        let same : f' n ≡ linked_behind after pixel (f name) = ap f' (label_exact n name (is_equal _ e)) ∙ segment in
+        let none : count_by (point_eq p) (f name) ≡ 0 =
+        count_none (point_eq p) (f name) (ap (λ q. has_pixel (f name) q) (point_exact p pixel (is_equal _ d)) ∙ fresh) in
+        let counted : count_by (point_eq p) (linked_behind after pixel (f name)) ≡ 1 =
+        count_linked p after pixel (f name) ∙ (λ i. ap (λ b. cond b 1 0) d i + none i) in
+        subst (λ l. count_by (point_eq p) l ≤ 1) (sym same) (subst (λ k. k ≤ 1) (sym counted) (omega arith))
+
+    rise : (p : Point) (c : Bool) → point_eq p pixel ≡ c → IsStrictlySortedBy label_cmp (g' p)
+    rise p true d =
+        subst (IsStrictlySortedBy label_cmp) (sym (ap g' (point_exact p pixel (is_equal _ d)) ∙ at)) (rises_in_place label_total name (g pixel) (h.rise pixel))
+    rise p false d = subst (IsStrictlySortedBy label_cmp) (sym (others p d)) (h.rise p)
+
+-- the passes of a pixel taken out
+pub linked_without_pixel : {f f' : Label → List Point} {g g' : Point → List Label} (pixel : Point) → AreLinked f g
+    → ((n : Label) → f' n ≡ filter (λ p. not (point_eq p pixel)) (f n)) → g' pixel ≡ [] → ((p : Point) → point_eq p pixel ≡ false → g' p ≡ g p) → AreLinked f' g'
+linked_without_pixel {f} {f'} {g} {g'} pixel h segments at others = record {
+  agree = λ n p.
+      fewer_linked (point_eq p pixel) (has_pixel (f n) p) (has_name (g p) n) (has_pixel (f' n) p) (has_name (g' p) n) (h.agree n p)
+      (ap (λ l. has_pixel l p) (segments n) ∙ any_without point_total p pixel (f n))
+      (λ e. ap (λ q. has_name (g' q) n) (point_exact p pixel (is_equal _ e)) ∙ ap (λ l. has_name l n) at)
+      (λ e. ap (λ l. has_name l n) (others p e));
+  once = λ n p.
+      subst (λ l. count_by (point_eq p) l ≤ 1) (sym (segments n))
+      (omega (arith, count_filter (point_eq p) (λ q. not (point_eq q pixel)) (f n), h.once n p));
+  rise = λ p. rise p (point_eq p pixel) refl;
+}
+  where
+    rise : (p : Point) (c : Bool) → point_eq p pixel ≡ c → IsStrictlySortedBy label_cmp (g' p)
+    rise p true d = subst (IsStrictlySortedBy label_cmp) (sym (ap g' (point_exact p pixel (is_equal _ d)) ∙ at)) no_names
+    rise p false d = subst (IsStrictlySortedBy label_cmp) (sym (others p d)) (h.rise p)
+
+-- the passes of a segment taken out
+pub linked_without_segment : {f f' : Label → List Point} {g g' : Point → List Label} (name : Label) → AreLinked f g
+    → f' name ≡ [] → ((n : Label) → label_eq n name ≡ false → f' n ≡ f n) → ((p : Point) → g' p ≡ filter (λ n. not (label_eq n name)) (g p)) → AreLinked f' g'
+linked_without_segment {f} {f'} {g} {g'} name h segment segments pixels = record {
+  agree = λ n p.
+      sym (fewer_linked (label_eq n name) (has_name (g p) n) (has_pixel (f n) p) (has_name (g' p) n) (has_pixel (f' n) p) (sym (h.agree n p))
+      (ap (λ l. has_name l n) (pixels p) ∙ any_without label_total n name (g p))
+      (λ e. ap (λ m. has_pixel (f' m) p) (label_exact n name (is_equal _ e)) ∙ ap (λ l. has_pixel l p) segment)
+      (λ e. ap (λ l. has_pixel l p) (segments n e)));
+  once = λ n p. once n p (label_eq n name) refl;
+  rise = λ p. subst (IsStrictlySortedBy label_cmp) (sym (pixels p)) (IsStrictlySortedBy-filter label_cmp (λ n. not (label_eq n name)) (g p) (h.rise p));
+}
+  where
+    once : (n : Label) (p : Point) (a : Bool) → label_eq n name ≡ a → count_by (point_eq p) (f' n) ≤ 1
+    once n p true e = subst (λ l. count_by (point_eq p) l ≤ 1) (sym (ap f' (label_exact n name (is_equal _ e)) ∙ segment)) (omega arith)
+    once n p false e = subst (λ l. count_by (point_eq p) l ≤ 1) (sym (segments n e)) (h.once n p)

@@ -1,0 +1,85 @@
+-- Passes of segments through hot pixels, as contracts see them: each segment has the list of its
+-- pixels, and each pixel the list of the names of its segments.
+use Rattle.std.specs.Prelude.{◌≡◌, ℕ, ℤ, ◌≤◌, Bool, cond, not, List, [], ◌∷◌, ◌++◌, filter, count_by, refl, Option, None, Some}
+use Rattle.std.specs.List.{list_any}
+use Rattle.std.specs.List.Sorted.{IsStrictlySortedBy}
+use Rattle.std.specs.Ordering.{is_lt}
+use Rattle.std.specs.FinMap.{FinMap, code}
+use Rattle.std.specs.Coded.{Coded, code_by, coded×, coded_ℕ, coded_ℤ, coded_list}
+use Rattle.grid_core.specs.declared.point.Point.{Point}
+use Rattle.grid_core.specs.Vector.{point_cmp, point_eq}
+use Rattle.grid_core.specs.Name.{Label, label_cmp, label_eq}
+use Rattle.pass_links.specs.Runs.{list_at}
+
+-- the lists of the segments, the lists of the pixels, and how many passes can be linked without memory
+pub record PassLists : Type 0 where
+  pub segments : FinMap label_cmp (List Point)
+  pub pixels : FinMap point_cmp (List Label)
+  pub spare : ℕ
+
+-- a name is stored as the pair of its parts
+abbrev pub label_code : Coded Label
+label_code =
+    code_by (ℕ × ℕ) (coded× coded_ℕ coded_ℕ) (λ n. (n.editor, n.serial)) (λ p. record { editor = p.0; serial = p.1 }) (λ _. refl)
+
+-- a point is stored as the pair of its coordinates
+abbrev pub point_code : Coded Point
+point_code =
+    code_by (ℤ × ℤ) (coded× coded_ℤ coded_ℤ) (λ a. (a.x, a.y)) (λ p. record { x = p.0; y = p.1 }) (λ _. refl)
+
+-- the lists are stored as the two maps and the number
+abbrev pub pass_lists_code : Coded PassLists
+pass_lists_code =
+    code_by (FinMap label_cmp (List Point) × (FinMap point_cmp (List Label) × ℕ))
+    (coded× (code label_code (coded_list point_code)) (coded× (code point_code (coded_list label_code)) coded_ℕ))
+    (λ v. (v.segments, (v.pixels, v.spare)))
+    (λ p. record { segments = p.0; pixels = p.1.0; spare = p.1.1 })
+    (λ _. refl)
+
+-- the pixels of a segment, in the order of its list
+abbrev pub pixels_of : PassLists → Label → List Point
+pixels_of v name = list_at v.segments name
+
+-- the names of the segments that pass through a pixel, in order
+abbrev pub names_at : PassLists → Point → List Label
+names_at v pixel = list_at v.pixels pixel
+
+-- the pixel stands in the list
+abbrev pub has_pixel : List Point → Point → Bool
+has_pixel ps pixel = list_any (point_eq pixel) ps
+
+-- the name stands in the list
+abbrev pub has_name : List Label → Label → Bool
+has_name names name = list_any (label_eq name) names
+
+-- the pixel put right behind `after`
+abbrev pub put_behind : Point → Point → List Point → List Point
+put_behind after pixel [] = pixel ∷ []
+put_behind after pixel (p ∷ ps) = cond (point_eq after p) (p ∷ pixel ∷ ps) (p ∷ put_behind after pixel ps)
+
+-- the pixel put right behind `after`, or first where there is none
+abbrev pub linked_behind : Option Point → Point → List Point → List Point
+linked_behind None pixel ps = pixel ∷ ps
+linked_behind (Some after) pixel ps = put_behind after pixel ps
+
+-- the name put into its place by the order of names
+abbrev pub with_name : Label → List Label → List Label
+with_name name names =
+    filter (λ m. is_lt (label_cmp m name)) names ++ name ∷ filter (λ m. is_lt (label_cmp name m)) names
+
+-- the list without a pixel
+abbrev pub without_pixel : Point → List Point → List Point
+without_pixel pixel ps = filter (λ p. not (point_eq p pixel)) ps
+
+-- the list without a name
+abbrev pub without_name : Label → List Label → List Label
+without_name name names = filter (λ n. not (label_eq n name)) names
+
+-- the two families of lists agree
+pub record AreLinked (pixels : Label → List Point) (names : Point → List Label) : Type 0 where
+  -- a name stands in a pixel's list exactly where the pixel stands in the name's list
+  pub agree : (n : Label) (p : Point) → has_pixel (pixels n) p ≡ has_name (names p) n
+  -- a segment's list has each pixel at most once
+  pub once : (n : Label) (p : Point) → count_by (point_eq p) (pixels n) ≤ 1
+  -- the names in a pixel's list rise
+  pub rise : (p : Point) → IsStrictlySortedBy label_cmp (names p)
