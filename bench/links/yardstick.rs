@@ -345,13 +345,13 @@ fn link_all<L: Lists>(lists: &mut L) -> u64 {
     linked
 }
 
-fn walk_all<L: Lists>(lists: &L) -> u64 {
+fn walk_all<L: Lists>(lists: &L, first: u64) -> u64 {
     let mut sum = 0;
     for segment in 0..16 {
         lists.along(name_of(segment), |_point| sum += 1);
     }
     for pixel in 0..256 {
-        lists.across(pixel_of(pixel), |name| sum += u64::from(name.serial));
+        lists.across(pixel_of(((pixel + first) % 256) as u16), |name| sum += u64::from(name.serial));
     }
     sum
 }
@@ -373,13 +373,13 @@ fn run<L: Lists>(work: &str, rounds: u32) -> u64 {
                 for segment in 0..16 {
                     lists.unlink_segment(name_of(segment));
                 }
-                total += walk_all(&lists);
+                total += walk_all(&lists, total);
             }
             "copy" => {
                 let copy = black_box(kept.clone());
                 copy.across(pixel_of(4), |name| total += u64::from(name.serial));
             }
-            _ => total += walk_all(black_box(&kept)),
+            _ => total += walk_all(black_box(&kept), total),
         }
     }
     total

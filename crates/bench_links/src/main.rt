@@ -97,16 +97,17 @@ fn walk_along(passes: &Passes, name: Name) -> u64 {
     count
 }
 
-/// The sum over all lists of the tile.
-fn walk_all(passes: &Passes) -> u64 {
+/// The sum over all lists of the tile; those of the pixels from the `first`-th on, and round to it.
+fn walk_all(passes: &Passes, first: u64) -> u64 {
     let mut sum: u64 = 0;
     for segment in 0..SEGMENTS {
         if let Some(name) = Name::new(1, segment + 1) {
             sum = sum.wrapping_add(walk_along(passes, name));
         }
     }
-    for pixel in 0..PIXELS {
-        sum = sum.wrapping_add(walk_across(passes, pixel_of(pixel)));
+    for pixel in 0..u64::from(PIXELS) {
+        let turned = (pixel.wrapping_add(first) % 256) as u16;
+        sum = sum.wrapping_add(walk_across(passes, pixel_of(turned)));
     }
     sum
 }
@@ -124,7 +125,7 @@ fn link_round(alloc: Global) -> Result<u64, Memory> {
             passes.unlink_segment(name);
         }
     }
-    Ok(linked.wrapping_add(walk_all(&passes)))
+    Ok(linked.wrapping_add(walk_all(&passes, linked)))
 }
 
 /// The sum over so many rounds of the work.
@@ -137,7 +138,8 @@ fn run(alloc: Global, work: Work, rounds: u32) -> Result<u64, Memory> {
         let part = match work {
             Work::Link => link_round(alloc)?,
             Work::Copy => walk_across(&passes.copy()?, pixel_of(4)),
-            Work::Walk => walk_all(&passes),
+            // each walk begins where the sum so far says, so that none is left out as a repetition
+            Work::Walk => walk_all(&passes, total),
         };
         total = total.wrapping_add(part);
     }
