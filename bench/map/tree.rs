@@ -1,0 +1,516 @@
+//! The tree of `radix_map` in plain Rust, with the same layout and the same walks, and std's
+//! `BTreeMap` beside it. It takes the words of `bench_map` and prints the same counts; `bytes`
+//! prints how many bytes an entry of 10,000 a round takes.
+
+use std::alloc::{GlobalAlloc, Layout, System};
+use std::collections::BTreeMap;
+use std::sync::Arc;
+use std::sync::atomic::{AtomicUsize, Ordering};
+
+struct Counting;
+
+static HELD: AtomicUsize = AtomicUsize::new(0);
+static COUNTS: std::sync::atomic::AtomicBool = std::sync::atomic::AtomicBool::new(false);
+
+unsafe impl GlobalAlloc for Counting {
+    unsafe fn alloc(&self, layout: Layout) -> *mut u8 {
+        if COUNTS.load(Ordering::Relaxed) {
+            HELD.fetch_add(layout.size(), Ordering::Relaxed);
+        }
+        unsafe { System.alloc(layout) }
+    }
+
+    unsafe fn dealloc(&self, at: *mut u8, layout: Layout) {
+        if COUNTS.load(Ordering::Relaxed) {
+            HELD.fetch_sub(layout.size(), Ordering::Relaxed);
+        }
+        unsafe { System.dealloc(at, layout) }
+    }
+}
+
+#[global_allocator]
+static ALLOCATOR: Counting = Counting;
+
+type Edit<V> = (u32, Option<Arc<V>>);
+
+struct Places<T> {
+    digits: u16,
+    items: Vec<Arc<T>>,
+}
+
+impl<T> Places<T> {
+    fn empty() -> Places<T> {
+        Places { digits: 0, items: Vec::new() }
+    }
+
+    #[inline(always)]
+    fn rank(&self, at: u32) -> usize {
+        (self.digits & ((1 << at) - 1)).count_ones() as usize
+    }
+
+    #[inline(always)]
+    fn get(&self, at: u32) -> Option<&T> {
+        if self.digits >> at & 1 == 0 {
+            return None;
+        }
+        Some(&self.items[self.rank(at)])
+    }
+
+    #[inline(always)]
+    fn next(&self, at: u32) -> Option<(u32, &T)> {
+        let higher = u32::from(self.digits) >> at;
+        if higher == 0 {
+            return None;
+        }
+        let n = at + higher.trailing_zeros();
+        Some((n, &self.items[self.rank(n)]))
+    }
+
+    fn copy(&self, more: usize) -> Places<T> {
+        let mut items = Vec::with_capacity(self.items.len().saturating_add(more).min(16));
+        for item in &self.items {
+            items.push(Arc::clone(item));
+        }
+        Places { digits: self.digits, items }
+    }
+
+    fn put(&mut self, at: u32, item: Option<Arc<T>>) {
+        let low = self.rank(at);
+        let is_taken = self.digits >> at & 1 != 0;
+        match item {
+            Some(item) if is_taken => self.items[low] = item,
+            Some(item) => {
+                self.items.insert(low, item);
+                self.digits |= 1 << at;
+            }
+            None if is_taken => {
+                self.items.remove(low);
+                self.digits &= !(1 << at);
+            }
+            None => {}
+        }
+    }
+}
+
+struct Edited<L> {
+    node: L,
+    added: usize,
+    removed: usize,
+}
+
+trait Level<V>: Sized {
+    fn empty() -> Self;
+    fn is_empty(&self) -> bool;
+    fn get(&self, key: u32, shift: u32) -> Option<&V>;
+    fn edited(&self, edits: &[Edit<V>], shift: u32) -> Edited<Self>;
+    fn edit(&mut self, edits: &[Edit<V>], shift: u32) -> (usize, usize);
+}
+
+struct Leaf<V> {
+    places: Places<V>,
+}
+
+struct Node<L> {
+    places: Places<L>,
+}
+
+#[inline(always)]
+fn place(key: u32, shift: u32) -> u32 {
+    key >> shift & 15
+}
+
+fn edit_value<V>(places: &mut Places<V>, edit: &Edit<V>) -> (usize, usize) {
+    let at = edit.0 & 15;
+    let was = places.get(at).is_some();
+    let is = edit.1.is_some();
+    places.put(at, edit.1.clone());
+    (usize::from(is && !was), usize::from(was && !is))
+}
+
+impl<V> Level<V> for Leaf<V> {
+    fn empty() -> Self {
+        Leaf { places: Places::empty() }
+    }
+
+    fn is_empty(&self) -> bool {
+        self.places.digits == 0
+    }
+
+    #[inline(always)]
+    fn get(&self, key: u32, _shift: u32) -> Option<&V> {
+        self.places.get(key & 15)
+    }
+
+    fn edited(&self, edits: &[Edit<V>], _shift: u32) -> Edited<Self> {
+        let mut places = self.places.copy(edits.len());
+        let (mut added, mut removed) = (0, 0);
+        for edit in edits {
+            let one = edit_value(&mut places, edit);
+            added += one.0;
+            removed += one.1;
+        }
+        Edited { node: Leaf { places }, added, removed }
+    }
+
+    fn edit(&mut self, edits: &[Edit<V>], shift: u32) -> (usize, usize) {
+        if let [edit] = edits {
+            return edit_value(&mut self.places, edit);
+        }
+        let copy = self.edited(edits, shift);
+        *self = copy.node;
+        (copy.added, copy.removed)
+    }
+}
+
+fn run_length<V>(edits: &[Edit<V>], shift: u32) -> usize {
+    let at = place(edits[0].0, shift);
+    edits.iter().position(|edit| place(edit.0, shift) != at).unwrap_or(edits.len())
+}
+
+impl<V, L: Level<V>> Level<V> for Node<L> {
+    fn empty() -> Self {
+        Node { places: Places::empty() }
+    }
+
+    fn is_empty(&self) -> bool {
+        self.places.digits == 0
+    }
+
+    #[inline(always)]
+    fn get(&self, key: u32, shift: u32) -> Option<&V> {
+        self.places.get(place(key, shift))?.get(key, shift - 4)
+    }
+
+    fn edited(&self, edits: &[Edit<V>], shift: u32) -> Edited<Self> {
+        let mut places = self.places.copy(edits.len());
+        let (mut added, mut removed) = (0, 0);
+        let mut rest = edits;
+        while !rest.is_empty() {
+            let at = place(rest[0].0, shift);
+            let (run, later) = rest.split_at(run_length(rest, shift));
+            let child = match places.get(at) {
+                Some(child) => child.edited(run, shift - 4),
+                None => L::empty().edited(run, shift - 4),
+            };
+            added += child.added;
+            removed += child.removed;
+            places.put(at, (!child.node.is_empty()).then(|| Arc::new(child.node)));
+            rest = later;
+        }
+        Edited { node: Node { places }, added, removed }
+    }
+
+    fn edit(&mut self, edits: &[Edit<V>], shift: u32) -> (usize, usize) {
+        if let Some(first) = edits.first() {
+            let at = place(first.0, shift);
+            if run_length(edits, shift) == edits.len() && self.places.get(at).is_some() {
+                let low = self.places.rank(at);
+                let item = &mut self.places.items[low];
+                let tally = match Arc::get_mut(item) {
+                    Some(child) => child.edit(edits, shift - 4),
+                    None => {
+                        let copy = item.edited(edits, shift - 4);
+                        *item = Arc::new(copy.node);
+                        (copy.added, copy.removed)
+                    }
+                };
+                if item.is_empty() {
+                    self.places.put(at, None);
+                }
+                return tally;
+            }
+        }
+        let copy = self.edited(edits, shift);
+        *self = copy.node;
+        (copy.added, copy.removed)
+    }
+}
+
+type Node1<V> = Node<Leaf<V>>;
+type Node2<V> = Node<Node1<V>>;
+type Node3<V> = Node<Node2<V>>;
+type Node4<V> = Node<Node3<V>>;
+type Node5<V> = Node<Node4<V>>;
+type Node6<V> = Node<Node5<V>>;
+type Root<V> = Node<Node6<V>>;
+
+trait Walk<'a, V, L: Level<V>> {
+    fn begin(node: &'a L, base: u32) -> Self;
+    fn step(&mut self, shift: u32) -> Option<(u32, &'a V)>;
+}
+
+struct LeafWalk<'a, V> {
+    leaf: &'a Leaf<V>,
+    at: u32,
+    base: u32,
+}
+
+struct NodeWalk<'a, L, W> {
+    node: &'a Node<L>,
+    at: u32,
+    base: u32,
+    inner: Option<W>,
+}
+
+impl<'a, V> Walk<'a, V, Leaf<V>> for LeafWalk<'a, V> {
+    fn begin(leaf: &'a Leaf<V>, base: u32) -> Self {
+        LeafWalk { leaf, at: 0, base }
+    }
+
+    fn step(&mut self, _shift: u32) -> Option<(u32, &'a V)> {
+        let (n, value) = self.leaf.places.next(self.at)?;
+        self.at = n + 1;
+        Some((self.base + n, value))
+    }
+}
+
+impl<'a, V, L: Level<V>, W: Walk<'a, V, L>> Walk<'a, V, Node<L>> for NodeWalk<'a, L, W> {
+    fn begin(node: &'a Node<L>, base: u32) -> Self {
+        NodeWalk { node, at: 0, base, inner: None }
+    }
+
+    fn step(&mut self, shift: u32) -> Option<(u32, &'a V)> {
+        loop {
+            if let Some(inner) = &mut self.inner {
+                if let Some(entry) = inner.step(shift - 4) {
+                    return Some(entry);
+                }
+            }
+            let (n, child) = self.node.places.next(self.at)?;
+            self.inner = Some(W::begin(child, self.base + (n << shift)));
+            self.at = n + 1;
+        }
+    }
+}
+
+type Walk1<'a, V> = NodeWalk<'a, Leaf<V>, LeafWalk<'a, V>>;
+type Walk2<'a, V> = NodeWalk<'a, Node1<V>, Walk1<'a, V>>;
+type Walk3<'a, V> = NodeWalk<'a, Node2<V>, Walk2<'a, V>>;
+type Walk4<'a, V> = NodeWalk<'a, Node3<V>, Walk3<'a, V>>;
+type Walk5<'a, V> = NodeWalk<'a, Node4<V>, Walk4<'a, V>>;
+type Walk6<'a, V> = NodeWalk<'a, Node5<V>, Walk5<'a, V>>;
+type RootWalk<'a, V> = NodeWalk<'a, Node6<V>, Walk6<'a, V>>;
+
+trait Finger<'a, V, L: Level<V>> {
+    fn begin(node: &'a L) -> Self;
+    fn find(&mut self, key: u32, shift: u32) -> Option<&'a V>;
+}
+
+struct LeafFinger<'a, V> {
+    leaf: &'a Leaf<V>,
+}
+
+struct NodeFinger<'a, L, F> {
+    node: &'a Node<L>,
+    at: u32,
+    inner: Option<F>,
+}
+
+impl<'a, V> Finger<'a, V, Leaf<V>> for LeafFinger<'a, V> {
+    fn begin(leaf: &'a Leaf<V>) -> Self {
+        LeafFinger { leaf }
+    }
+
+    #[inline(always)]
+    fn find(&mut self, key: u32, shift: u32) -> Option<&'a V> {
+        self.leaf.get(key, shift)
+    }
+}
+
+impl<'a, V, L: Level<V>, F: Finger<'a, V, L>> Finger<'a, V, Node<L>> for NodeFinger<'a, L, F> {
+    fn begin(node: &'a Node<L>) -> Self {
+        NodeFinger { node, at: 0, inner: None }
+    }
+
+    #[inline(always)]
+    fn find(&mut self, key: u32, shift: u32) -> Option<&'a V> {
+        let at = place(key, shift);
+        if at == self.at {
+            if let Some(inner) = &mut self.inner {
+                return inner.find(key, shift - 4);
+            }
+        }
+        let mut inner = F::begin(self.node.places.get(at)?);
+        let found = inner.find(key, shift - 4);
+        self.inner = Some(inner);
+        self.at = at;
+        found
+    }
+}
+
+type Finger1<'a, V> = NodeFinger<'a, Leaf<V>, LeafFinger<'a, V>>;
+type Finger2<'a, V> = NodeFinger<'a, Node1<V>, Finger1<'a, V>>;
+type Finger3<'a, V> = NodeFinger<'a, Node2<V>, Finger2<'a, V>>;
+type Finger4<'a, V> = NodeFinger<'a, Node3<V>, Finger3<'a, V>>;
+type Finger5<'a, V> = NodeFinger<'a, Node4<V>, Finger4<'a, V>>;
+type Finger6<'a, V> = NodeFinger<'a, Node5<V>, Finger5<'a, V>>;
+type RootFinger<'a, V> = NodeFinger<'a, Node6<V>, Finger6<'a, V>>;
+
+struct Map<V> {
+    len: usize,
+    root: Root<V>,
+}
+
+impl<V> Map<V> {
+    fn open() -> Map<V> {
+        Map { len: 0, root: Level::<V>::empty() }
+    }
+
+    fn get(&self, key: u32) -> Option<&V> {
+        self.root.get(key, 28)
+    }
+
+    fn with(&self, key: u32, value: Arc<V>) -> Map<V> {
+        self.with_all(&[(key, Some(value))])
+    }
+
+    fn with_all(&self, edits: &[Edit<V>]) -> Map<V> {
+        let copy = self.root.edited(edits, 28);
+        Map { len: self.len + copy.added - copy.removed, root: copy.node }
+    }
+
+    fn edit_all(&mut self, edits: &[Edit<V>]) {
+        let (added, removed) = self.root.edit(edits, 28);
+        self.len = self.len + added - removed;
+    }
+}
+
+struct Draws {
+    state: u64,
+}
+
+impl Draws {
+    fn start() -> Draws {
+        Draws { state: 1 }
+    }
+
+    fn next(&mut self) -> u32 {
+        self.state = self
+            .state
+            .wrapping_mul(6_364_136_223_846_793_005)
+            .wrapping_add(1_442_695_040_888_963_407);
+        (self.state >> 32) as u32
+    }
+}
+
+fn tile_key(x: u32, y: u32) -> u32 {
+    x * 8_193 + y
+}
+
+fn line_keys(line: &str) -> Vec<u32> {
+    match line {
+        "steep" => (0..8_193).map(|n| tile_key(4_096, n)).collect(),
+        "flat" => (0..8_193).map(|n| tile_key(n, 4_096)).collect(),
+        _ => (0..4_096).map(window_key).collect(),
+    }
+}
+
+fn window_key(n: u32) -> u32 {
+    tile_key(n / 64 % 64 + 4_096, n % 64 + 4_096)
+}
+
+fn line_edits(line: &str) -> Vec<Edit<u64>> {
+    let value = Arc::new(7);
+    line_keys(line).into_iter().map(|key| (key, Some(Arc::clone(&value)))).collect()
+}
+
+fn random_map(count: u32) -> Map<u64> {
+    let value = Arc::new(7);
+    let mut draws = Draws::start();
+    let mut map = Map::open();
+    for _ in 0..count {
+        map = map.with(draws.next(), Arc::clone(&value));
+    }
+    map
+}
+
+fn main() {
+    let words: Vec<String> = std::env::args().collect();
+    let rounds: u32 = words[1].parse().expect("a number of rounds");
+    let work = words[2].as_str();
+    let count: u64 = match work {
+        "with_random" => random_map(rounds * 10_000).len as u64,
+        "with_window" => {
+            let value = Arc::new(7);
+            let mut map: Map<u64> = Map::open();
+            for n in 0..rounds * 10_000 {
+                map = map.with(window_key(n), Arc::clone(&value));
+            }
+            map.len as u64
+        }
+        "get" => {
+            let map = random_map(100_000);
+            let mut count = 0;
+            for _ in 0..rounds {
+                let mut draws = Draws::start();
+                for m in 0..100_000 {
+                    count += u64::from(map.get(draws.next() ^ (m & 1)).is_some());
+                }
+            }
+            count
+        }
+        "btree_get" => {
+            let value: Arc<u64> = Arc::new(7);
+            let mut draws = Draws::start();
+            let map: BTreeMap<u32, Arc<u64>> =
+                (0..100_000).map(|_| (draws.next(), Arc::clone(&value))).collect();
+            let mut count = 0;
+            for _ in 0..rounds {
+                let mut draws = Draws::start();
+                for m in 0..100_000 {
+                    count += u64::from(map.get(&(draws.next() ^ (m & 1))).is_some());
+                }
+            }
+            count
+        }
+        "entries" => {
+            let map = random_map(100_000);
+            let mut count: u64 = 0;
+            for _ in 0..rounds {
+                let mut walk = RootWalk::begin(&map.root, 0);
+                while let Some((key, value)) = walk.step(28) {
+                    count = count.wrapping_add(u64::from(key) ^ *value);
+                }
+            }
+            count
+        }
+        "bytes" => {
+            COUNTS.store(true, Ordering::Relaxed);
+            let map = random_map(rounds * 10_000);
+            let held = HELD.load(Ordering::Relaxed);
+            COUNTS.store(false, Ordering::Relaxed);
+            (held / map.len) as u64
+        }
+        _ => {
+            if let Some(line) = work.strip_prefix("with_all_") {
+                let edits = line_edits(line);
+                let mut map = Map::open();
+                for _ in 0..rounds {
+                    map = map.with_all(&edits);
+                }
+                map.len as u64
+            } else if let Some(line) = work.strip_prefix("edit_all_") {
+                let edits = line_edits(line);
+                let mut map = Map::open();
+                for _ in 0..rounds {
+                    map.edit_all(&edits);
+                }
+                map.len as u64
+            } else if let Some(line) = work.strip_prefix("find_all_") {
+                let keys = line_keys(line);
+                let map = Map::open().with_all(&line_edits(line));
+                let mut count = 0;
+                for _ in 0..rounds {
+                    let mut finger = RootFinger::begin(&map.root);
+                    for key in &keys {
+                        count += u64::from(finger.find(*key, 28).is_some());
+                    }
+                }
+                count
+            } else {
+                panic!("no work is called {work}");
+            }
+        }
+    };
+    println!("rounds {rounds} count {count}");
+}

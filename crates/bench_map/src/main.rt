@@ -1,0 +1,34 @@
+//! Works a map hard, for its time to be taken from outside: it prints counts alone.
+//!
+//! The first word is the number of rounds, and the second names the work.
+
+#![tactic(auto)]
+
+mod keys;
+mod work;
+
+use std::env;
+use std::process::ExitCode;
+use std::rt::Env;
+use work::{Work, run};
+
+fn main(rt: HostRuntime) -> ExitCode {
+    let Some((rounds, work)) = words(&rt) else {
+        return ExitCode::from(2);
+    };
+    let Ok(count) = run(rt.alloc(), rounds, work) else {
+        return ExitCode::from(3);
+    };
+    match println!(rt; "rounds {rounds} count {count}") {
+        Ok(()) => ExitCode::SUCCESS,
+        Err(_) => ExitCode::FAILURE,
+    }
+}
+
+fn words(rt: &(impl Env + AllocGlobal)) -> Option<(u32, Work)> {
+    let mut args = env::args(rt).ok()?;
+    let _program = args.next()?;
+    let rounds = args.next()?;
+    let work = args.next()?;
+    Some((rounds.as_str().parse().ok()?, Work::named(work.as_str())?))
+}

@@ -1,0 +1,7 @@
+use Rattle.std.proofs.Common.{ap, ◌∙◌}
+use Rattle.radix_map.specs.Entries.{entries_of, single}
+use Rattle.radix_map.proofs.Trees.{of_none}
+use Rattle.radix_map.proofs.level.LeafLevel.is_empty.Goals as goal
+
+pub returns : goal.returns
+returns g c = λ t. ap (entries_of single 1) (c.is_empty.ensures t) ∙ of_none single 1

@@ -1,0 +1,45 @@
+-- What is left of a walk over a map: the entries that were not yet given.
+use Rattle.std.specs.Prelude.{ℕ, ◌+◌, ◌*◌, ◌^◌, ◌≤◌, Option, Some, None, List, ◌++◌}
+use Rattle.radix_map.specs.declared.level.Leaf.{Leaf}
+use Rattle.radix_map.specs.declared.level.Node.{Node}
+use Rattle.radix_map.specs.declared.entries.LeafWalk.{LeafWalk}
+use Rattle.radix_map.specs.declared.entries.NodeWalk.{NodeWalk}
+use Rattle.radix_map.specs.Entries.{entries_behind, part, single}
+use Rattle.radix_map.specs.Map.{leaf_entries, node_entries}
+use Rattle.radix_map.specs.Inner.{inner_sound}
+
+-- what is left of a walk over a leaf
+abbrev pub leaf_left : {V : Type 0} → LeafWalk V → List (ℕ × V)
+leaf_left w = entries_behind single 1 w.base w.at w.leaf.now.places
+
+-- what is left of a walk over a node, where f tells the entries of a child and g what is left of a walk over one
+abbrev pub node_left : {T W V : Type 0} → (T → List (ℕ × V)) → (W → List (ℕ × V)) → ℕ → NodeWalk T W → List (ℕ × V)
+node_left f g s w = part g w.inner ++ entries_behind f (2 ^ (s + 4)) w.base w.at w.node.now.places
+
+-- a walk over a leaf stays within the keys
+abbrev pub leaf_sound : {V : Type 0} → LeafWalk V → Type 0
+leaf_sound w = (w.base + 16 ≤ 4294967296) × (w.at ≤ 16)
+
+-- so does a walk over a node, where P says so of a walk over a child
+abbrev pub node_sound : {T W : Type 0} → (W → Type 0) → ℕ → NodeWalk T W → Type 0
+node_sound P s w = (w.base + 16 * 2 ^ (s + 4) ≤ 4294967296) × (w.at ≤ 16) × inner_sound P w.inner
+
+abbrev pub RootWalk : Type 0 → Type 0
+RootWalk V =
+    NodeWalk (Node (Node (Node (Node (Node (Node (Leaf V))))))) (NodeWalk (Node (Node (Node (Node (Node (Leaf V)))))) (NodeWalk (Node (Node (Node (Node (Leaf V))))) (NodeWalk (Node (Node (Node (Leaf V)))) (NodeWalk (Node (Node (Leaf V))) (NodeWalk (Node (Leaf V)) (NodeWalk (Leaf V) (LeafWalk V)))))))
+
+-- what is left of a walk over the root
+abbrev pub root_left : {V : Type 0} → RootWalk V → List (ℕ × V)
+root_left w =
+    let e1 = node_entries leaf_entries 0 in
+    let e2 = node_entries e1 4 in
+    let e3 = node_entries e2 8 in
+    let e4 = node_entries e3 12 in
+    let e5 = node_entries e4 16 in
+    let e6 = node_entries e5 20 in
+    node_left e6 (node_left e5 (node_left e4 (node_left e3 (node_left e2 (node_left e1 (node_left leaf_entries leaf_left 0) 4) 8) 12) 16) 20) 24 w
+
+-- a walk over the root stays within the keys
+abbrev pub root_sound : {V : Type 0} → RootWalk V → Type 0
+root_sound w =
+    node_sound (node_sound (node_sound (node_sound (node_sound (node_sound (node_sound leaf_sound 0) 4) 8) 12) 16) 20) 24 w

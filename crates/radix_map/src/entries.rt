@@ -1,0 +1,204 @@
+//! A walk over the entries of a map by rising key, which visits stored nodes alone.
+
+ghost use Rattle.std.specs.Prelude.{◌≡◌, ℕ, ◌+◌, ◌*◌, ◌^◌, ◌<◌, ◌≤◌, ◌∷◌, List, [], ◌++◌, MatchOption};
+ghost use Rattle.radix_map.specs.Entries.{raised, entries_behind, part, single};
+ghost use Rattle.radix_map.specs.Map.{root_entries};
+ghost use Rattle.std.specs.Iterator.{YieldsFirstBy, item_count};
+ghost use Rattle.radix_map.specs.Inner.{inner_sound};
+
+use crate::level::{Leaf, Level, Node, Node1, Node2, Node3, Node4, Node5, Node6, ROOT_SHIFT, Root};
+use std::marker::Model;
+
+type Walk1<'a, V> = NodeWalk<'a, Leaf<V>, LeafWalk<'a, V>>;
+
+type Walk2<'a, V> = NodeWalk<'a, Node1<V>, Walk1<'a, V>>;
+
+type Walk3<'a, V> = NodeWalk<'a, Node2<V>, Walk2<'a, V>>;
+
+type Walk4<'a, V> = NodeWalk<'a, Node3<V>, Walk3<'a, V>>;
+
+type Walk5<'a, V> = NodeWalk<'a, Node4<V>, Walk4<'a, V>>;
+
+type Walk6<'a, V> = NodeWalk<'a, Node5<V>, Walk5<'a, V>>;
+
+type RootWalk<'a, V> = NodeWalk<'a, Node6<V>, Walk6<'a, V>>;
+
+/// The entries of a map that were not yet given, by rising key.
+#[derive(Drop)]
+pub struct Entries<'a, V> {
+    walk: RootWalk<'a, V>,
+}
+
+impl<'a, V> Model for Entries<'a, V> {
+    ghost use Rattle.std.specs.Prelude.{ℕ, List};
+    ghost use Rattle.radix_map.specs.Walks.{root_left, root_sound};
+
+    ghost Value = { List (ℕ × V) };
+
+    ghost view = { λ e. root_left e.walk };
+
+    ghost invariant = { λ e. root_sound e.walk };
+}
+
+impl<'a, V: Drop> Entries<'a, V> {
+    pub(crate) fn of(root: &'a Root<V>) -> Entries<'a, V>
+        ensures { result ≡ root_entries root.now }
+    {
+        Entries {
+            walk: Walk::begin(root, 0),
+        }
+    }
+}
+
+impl<'a, V: Drop> Iterator for Entries<'a, V> {
+    type Item = (u32, &'a V);
+
+    ghost next_gives = { YieldsFirstBy (λ p. (p.0, p.1.now)) (λ s. s) };
+
+    ghost remaining = { item_count (λ s. s) };
+
+    fn next(&mut self) -> Option<(u32, &'a V)> {
+        self.walk.step(ROOT_SHIFT)
+    }
+}
+
+/// A walk over the entries of a node of one level.
+pub(crate) trait Walk<'a, V, L: Level<V>>: Drop {
+    ghost left: { Self → List (ℕ × V) };
+
+    ghost sound: { Self → Type 0 };
+
+    /// A walk over all entries of the node, whose keys are counted from `base`.
+    fn begin(node: &'a L, base: u32) -> Self
+        requires { base + 16 * 2 ^ L.bits ≤ 4294967296 }
+        ensures left { left result ≡ raised base (L.entries node.now) }
+        ensures sound { sound result };
+
+    /// The first entry that is left.
+    fn step(&mut self, shift: u32) -> Option<(u32, &'a V)>
+        requires level { shift ≡ L.bits }
+        requires small { shift ≤ 28 }
+        requires sound { sound self.old }
+        ensures first { MatchOption result ((left self.old ≡ []) × (left self.new ≡ []))
+            (λ p. left self.old ≡ (p.0, p.1.now) ∷ left self.new) }
+        ensures sound { sound self.new };
+}
+
+/// A walk over a leaf: the values at place `at` and behind it are left.
+#[derive(Drop)]
+pub(crate) struct LeafWalk<'a, V> {
+    leaf: &'a Leaf<V>,
+    at: u32,
+    base: u32,
+}
+
+/// A walk over a node: what is left of one child, and the children at place `at` and behind it.
+#[derive(Drop)]
+pub(crate) struct NodeWalk<'a, L, W> {
+    node: &'a Node<L>,
+    at: u32,
+    base: u32,
+    inner: Option<W>,
+}
+
+impl<'a, V: Drop> Walk<'a, V, Leaf<V>> for LeafWalk<'a, V> {
+    ghost left = { λ w. entries_behind single 1 w.base w.at w.leaf.now.places };
+
+    ghost sound = { λ w. (w.base + 16 ≤ 4294967296) × (w.at ≤ 16) };
+
+    fn begin(node: &'a Leaf<V>, base: u32) -> Self {
+        LeafWalk {
+            leaf: node,
+            at: 0,
+            base,
+        }
+    }
+
+    fn step(&mut self, _shift: u32) -> Option<(u32, &'a V)> {
+        match self.leaf.places.next(self.at) {
+            Some((n, value)) => {
+                self.at = n + 1;
+                Some((self.base + n, value))
+            }
+            None => None,
+        }
+    }
+}
+
+impl<'a, V: Drop, L: Level<V>, W: Walk<'a, V, L>> Walk<'a, V, Node<L>> for NodeWalk<'a, L, W> {
+    ghost left = { λ w. part W.left w.inner
+        ++ entries_behind L.entries (2 ^ (L.bits + 4)) w.base w.at w.node.now.places };
+
+    ghost sound = { λ w. (w.base + 16 * 2 ^ (L.bits + 4) ≤ 4294967296)
+        × (w.at ≤ 16) × inner_sound W.sound w.inner };
+
+    fn begin(node: &'a Node<L>, base: u32) -> Self {
+        NodeWalk {
+            node,
+            at: 0,
+            base,
+            inner: None,
+        }
+    }
+
+    fn step(&mut self, shift: u32) -> Option<(u32, &'a V)> {
+        loop {
+            match step_inner(&mut self.inner, shift - 4) {
+                Some(entry) => return Some(entry),
+                None => {}
+            }
+            match self.node.places.next(self.at) {
+                Some((n, child)) => {
+                    self.inner = Some(child_walk(child, self.base, n, shift));
+                    self.at = n + 1;
+                }
+                None => return None,
+            }
+        }
+    }
+}
+
+// The first entry that is left of a child.
+fn step_inner<'a, V, L: Level<V>, W: Walk<'a, V, L>>(
+    inner: &mut Option<W>,
+    shift: u32,
+) -> Option<(u32, &'a V)>
+    requires level { shift ≡ L.bits }
+    requires small { shift ≤ 28 }
+    requires sound { inner_sound W.sound inner.old }
+    ensures first { MatchOption result
+        ((part W.left inner.old ≡ []) × (part W.left inner.new ≡ []))
+        (λ p. part W.left inner.old ≡ (p.0, p.1.now) ∷ part W.left inner.new) }
+    ensures sound { inner_sound W.sound inner.new }
+{
+    match inner {
+        Some(inner) => inner.step(shift),
+        None => None,
+    }
+}
+
+// A walk over the child in place `n` of a node whose keys are counted from `base`.
+fn child_walk<'a, V, L: Level<V>, W: Walk<'a, V, L>>(
+    child: &'a L,
+    base: u32,
+    n: u32,
+    shift: u32,
+) -> W
+    requires level { shift ≡ L.bits + 4 }
+    requires small { shift ≤ 28 }
+    requires place { n < 16 }
+    requires fits { base + 16 * 2 ^ shift ≤ 4294967296 }
+    ensures left { W.left result ≡ raised (base + n * 2 ^ shift) (L.entries child.now) }
+    ensures sound { W.sound result }
+{
+    W::begin(child, first_key(base, n, shift))
+}
+
+fn first_key(base: u32, n: u32, shift: u32) -> u32
+    requires small { shift ≤ 28 }
+    requires place { n < 16 }
+    requires fits { base + 16 * 2 ^ shift ≤ 4294967296 }
+    ensures { result ≡ base + n * 2 ^ shift }
+{
+    base + (n << shift)
+}

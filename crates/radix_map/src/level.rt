@@ -1,0 +1,463 @@
+//! The levels of the tree: a leaf holds values, and a node holds nodes of the level below.
+
+ghost use Rattle.std.specs.Prelude.{◌≡◌, ℕ, ◌+◌, ◌*◌, ◌/◌, ◌%◌, ◌^◌, ◌<◌, ◌≤◌, List, [], length, take};
+ghost use Rattle.std.specs.Prelude.{IfOk, OnOk, OnErr, IsSome, IfNone, IfSome, Some, Option};
+ghost use Rattle.std.specs.Prelude.{option_copied, option_map, true, cond, not, ◌&&◌};
+ghost use Rattle.std.specs.Arc.{arc_value};
+ghost use Rattle.radix_map.specs.Places.{item_at};
+ghost use Rattle.radix_map.specs.Entries.{value_at, edited, edited_within, Rises, part, leaf_map};
+ghost use Rattle.radix_map.specs.Entries.{node_map, block, InPlace, IsFirstRun, KeysFit, Counts};
+
+use crate::places::Places;
+use grid_core::Memory;
+use std::alloc::Global;
+use std::sync::Arc;
+
+/// One edit of a map: a key, and the value that it is set to, or `None` where it is removed.
+pub(crate) type Edit<V> = (u32, Option<Arc<V>>);
+
+/// How many keys some edits added and removed.
+#[derive(Clone, Copy)]
+pub(crate) struct Tally {
+    pub(crate) added: usize,
+    pub(crate) removed: usize,
+}
+
+/// A copy of a node after some edits, and what they did.
+#[derive(Drop)]
+pub(crate) struct Edited<L> {
+    pub(crate) node: L,
+    pub(crate) tally: Tally,
+}
+
+/// A level of the tree as a finite map. A node places a key by the four bits from `shift` on, and
+/// has the keys of one block of `16 * 2 ^ shift`, counted from the block's first.
+pub(crate) trait Level<V>: Drop {
+    ghost bits: { ℕ };
+
+    ghost entries: { Self → List (ℕ × V) };
+
+    /// Nothing is in it.
+    fn empty(alloc: Global) -> Self
+        ensures { entries result ≡ [] };
+
+    /// No place is taken.
+    fn is_empty(&self) -> bool
+        ensures { result ≡ true → entries self.now ≡ [] };
+
+    /// The value at the key.
+    fn get(&self, key: u32, shift: u32) -> Option<&V>
+        requires level { shift ≡ bits }
+        requires small { shift ≤ 28 }
+        ensures { option_copied result ≡ value_at (key % (block bits)) (entries self.now) };
+
+    /// A copy after each edit in turn.
+    fn edited(&self, alloc: Global, edits: &[Edit<V>], shift: u32) -> Result<Edited<Self>, Memory>
+        requires level { shift ≡ bits }
+        requires small { shift ≤ 28 }
+        ensures ok { IfOk result
+            (λ p. entries p.node ≡ edited_within (block bits) (entries self.now) edits.now) }
+        ensures counted { IfOk result (λ p. Counts (length (entries self.now))
+            (length (entries p.node)) p.tally.added p.tally.removed) }
+        ensures few { IfOk result
+            (λ p. (p.tally.added ≤ length edits.now) × (p.tally.removed ≤ length edits.now)) }
+        ensures fit { OnOk result (KeysFit edits.now) };
+
+    /// Each edit in turn. What nobody else holds on the one way that all edits share is changed
+    /// where it is, and what others hold is copied. The entries stay after want of memory.
+    fn edit(&mut self, alloc: Global, edits: &[Edit<V>], shift: u32) -> Result<Tally, Memory>
+        requires level { shift ≡ bits }
+        requires small { shift ≤ 28 }
+        ensures ok { OnOk result
+            (entries self.new ≡ edited_within (block bits) (entries self.old) edits.now) }
+        ensures err { OnErr result (entries self.new ≡ entries self.old) }
+        ensures counted { IfOk result (λ t. Counts (length (entries self.old))
+            (length (entries self.new)) t.added t.removed) }
+        ensures few { IfOk result
+            (λ t. (t.added ≤ length edits.now) × (t.removed ≤ length edits.now)) }
+        ensures fit { OnOk result (KeysFit edits.now) };
+
+    ghost rises: { (x : Self) → Rises 0 (block bits) (entries x) };
+}
+
+/// A node of the lowest level: a value for each of sixteen keys.
+#[derive(Drop)]
+pub(crate) struct Leaf<V> {
+    pub(crate) places: Places<V>,
+}
+
+/// A node above: a subtree for each of sixteen parts of the keys.
+#[derive(Drop)]
+pub(crate) struct Node<L> {
+    pub(crate) places: Places<L>,
+}
+
+// The nodes of the levels above the leaves, from below.
+pub(crate) type Node1<V> = Node<Leaf<V>>;
+
+pub(crate) type Node2<V> = Node<Node1<V>>;
+
+pub(crate) type Node3<V> = Node<Node2<V>>;
+
+pub(crate) type Node4<V> = Node<Node3<V>>;
+
+pub(crate) type Node5<V> = Node<Node4<V>>;
+
+pub(crate) type Node6<V> = Node<Node5<V>>;
+
+pub(crate) type Root<V> = Node<Node6<V>>;
+
+/// The root places a key by its four highest bits.
+pub(crate) const ROOT_SHIFT: u32 = 28;
+
+impl<V: Drop> Level<V> for Leaf<V> {
+    ghost use Rattle.radix_map.specs.Rising.{leaf_rises};
+
+    ghost bits = { 0 };
+
+    ghost entries = { λ x. leaf_map x.places };
+
+    fn empty(alloc: Global) -> Self {
+        Leaf {
+            places: Places::empty(alloc),
+        }
+    }
+
+    fn is_empty(&self) -> bool {
+        self.places.is_empty()
+    }
+
+    #[inline(always)]
+    fn get(&self, key: u32, _shift: u32) -> Option<&V> {
+        self.places.get(key & 15)
+    }
+
+    fn edited(
+        &self,
+        alloc: Global,
+        edits: &[Edit<V>],
+        _shift: u32,
+    ) -> Result<Edited<Self>, Memory> {
+        let mut places = self.places.copy(alloc, edits.len())?;
+        let mut tally = Tally {
+            added: 0,
+            removed: 0,
+        };
+        for edit in edits {
+            let one = edit_value(&mut places, edit.0, &edit.1)?;
+            tally.added += one.added;
+            tally.removed += one.removed;
+        }
+        Ok(Edited {
+            node: Leaf { places },
+            tally,
+        })
+    }
+
+    fn edit(&mut self, alloc: Global, edits: &[Edit<V>], shift: u32) -> Result<Tally, Memory> {
+        match edits {
+            [edit] => edit_value(&mut self.places, edit.0, &edit.1),
+            _ => {
+                let copy = self.edited(alloc, edits, shift)?;
+                *self = copy.node;
+                Ok(copy.tally)
+            }
+        }
+    }
+
+    ghost rises = { λ x. leaf_rises x.places };
+}
+
+impl<V: Drop, L: Level<V>> Level<V> for Node<L> {
+    ghost use Rattle.radix_map.specs.Rising.{node_rises};
+
+    ghost bits = { L.bits + 4 };
+
+    ghost entries = { λ x. node_map L.entries L.bits x.places };
+
+    fn empty(alloc: Global) -> Self {
+        Node {
+            places: Places::empty(alloc),
+        }
+    }
+
+    fn is_empty(&self) -> bool {
+        self.places.is_empty()
+    }
+
+    #[inline(always)]
+    fn get(&self, key: u32, shift: u32) -> Option<&V> {
+        match self.places.get(place(key, shift)) {
+            Some(child) => child.get(key, shift - 4),
+            None => None,
+        }
+    }
+
+    fn edited(&self, alloc: Global, edits: &[Edit<V>], shift: u32) -> Result<Edited<Self>, Memory> {
+        let mut places = self.places.copy(alloc, edits.len())?;
+        let mut tally = Tally {
+            added: 0,
+            removed: 0,
+        };
+        let mut rest = edits;
+        loop {
+            match next_run(rest, shift) {
+                Some(run) => {
+                    let one = edit_run(&mut places, alloc, run.at, run.edits, shift)?;
+                    tally.added += one.added;
+                    tally.removed += one.removed;
+                    rest = run.rest;
+                }
+                None => {
+                    return Ok(Edited {
+                        node: Node { places },
+                        tally,
+                    });
+                }
+            }
+        }
+    }
+
+    fn edit(&mut self, alloc: Global, edits: &[Edit<V>], shift: u32) -> Result<Tally, Memory> {
+        match next_run(edits, shift) {
+            Some(run) if run.rest.is_empty() && self.places.get(run.at).is_some() => {
+                edit_run_here(&mut self.places, alloc, run.at, run.edits, shift)
+            }
+            _ => {
+                let copy = self.edited(alloc, edits, shift)?;
+                *self = copy.node;
+                Ok(copy.tally)
+            }
+        }
+    }
+
+    ghost rises = { λ x. node_rises L.entries L.bits L.rises x.places };
+}
+
+// The place of a key: its four bits from `shift` on.
+#[inline(always)]
+pub(crate) fn place(key: u32, shift: u32) -> u32
+    requires { shift ≤ 28 }
+    ensures value { result ≡ key / 2 ^ shift % 16 }
+    ensures small { result < 16 }
+    ensures fits { key < 4294967296 }
+{
+    key >> shift & 15
+}
+
+// The first edits, which all lie in one place, and those behind them.
+#[derive(Drop)]
+struct Run<'a, V> {
+    at: u32,
+    edits: &'a [Edit<V>],
+    rest: &'a [Edit<V>],
+}
+
+fn next_run<'a, V>(edits: &'a [Edit<V>], shift: u32) -> Option<Run<'a, V>>
+    requires { shift ≤ 28 }
+    ensures none { IfNone result (edits.now ≡ []) }
+    ensures some { IfSome result
+        (λ r. IsFirstRun (2 ^ shift) edits.now r.at r.edits.now r.rest.now) }
+{
+    let (first, later) = edits.split_first()?;
+    let at = place(first.0, shift);
+    let n = run_length(later, at, shift) + 1;
+    let (run, rest) = edits.split_at(n);
+    Some(Run {
+        at,
+        edits: run,
+        rest,
+    })
+}
+
+// How many of the first edits lie in place `at`.
+fn run_length<V>(edits: &[Edit<V>], at: u32, shift: u32) -> usize
+    requires { shift ≤ 28 }
+    ensures within { result ≤ length edits.now }
+    ensures all { InPlace (2 ^ shift) at (take result edits.now) }
+    ensures fit { KeysFit (take result edits.now) }
+{
+    for (n, edit) in edits.iter().enumerate() {
+        if place(edit.0, shift) != at {
+            return n;
+        }
+    }
+    edits.len()
+}
+
+// Sets or removes a value of a leaf.
+fn edit_value<V: Drop>(
+    places: &mut Places<V>,
+    key: u32,
+    value: &Option<Arc<V>>,
+) -> Result<Tally, Memory>
+    ensures ok { OnOk result (leaf_map places.new
+        ≡ edited (leaf_map places.old) (key % 16) (option_map arc_value value.now)) }
+    ensures err { OnErr result (places.new ≡ places.old) }
+    ensures counted { IfOk result (λ t. Counts (length (leaf_map places.old))
+        (length (leaf_map places.new)) t.added t.removed) }
+    ensures few { IfOk result (λ t. (t.added ≤ 1) × (t.removed ≤ 1)) }
+    ensures fits { key < 4294967296 }
+{
+    let at = key & 15;
+    let is_taken = places.get(at).is_some();
+    let item = share_value(value)?;
+    let is_set = item.is_some();
+    places.put(at, item)?;
+    Ok(Tally {
+        added: one_if(is_set, is_taken),
+        removed: one_if(is_taken, is_set),
+    })
+}
+
+// 1 where only the first holds.
+fn one_if(is: bool, other: bool) -> usize
+    ensures { result ≡ cond (is && not other) 1 0 }
+{
+    usize::from(is && !other)
+}
+
+fn share_value<V: Drop>(value: &Option<Arc<V>>) -> Result<Option<Arc<V>>, Memory>
+    ensures { IfOk result (λ o. option_map arc_value o ≡ option_map arc_value value.now) }
+{
+    match value {
+        Some(value) => Ok(Some(Arc::try_clone(value)?)),
+        None => Ok(None),
+    }
+}
+
+// Edits the child at one place, of which a copy takes its place, or none where it has become empty.
+fn edit_run<V, L: Level<V>>(
+    places: &mut Places<L>,
+    alloc: Global,
+    at: u32,
+    run: &[Edit<V>],
+    shift: u32,
+) -> Result<Tally, Memory>
+    requires level { shift ≡ L.bits + 4 }
+    requires small { shift ≤ 28 }
+    requires at { at < 16 }
+    requires run { InPlace (2 ^ shift) at run.now }
+    ensures ok { OnOk result (node_map L.entries L.bits places.new ≡ edited_within
+        (block (L.bits + 4)) (node_map L.entries L.bits places.old) run.now) }
+    ensures counted { IfOk result (λ t. Counts (length (node_map L.entries L.bits places.old))
+        (length (node_map L.entries L.bits places.new)) t.added t.removed) }
+    ensures few { IfOk result
+        (λ t. (t.added ≤ length run.now) × (t.removed ≤ length run.now)) }
+{
+    let child = edited_child(places.get(at), alloc, run, shift - 4)?;
+    let item = shared(alloc, child.node)?;
+    places.put(at, item)?;
+    Ok(child.tally)
+}
+
+// Edits the child at one place where it is, and drops it where it has become empty.
+fn edit_run_here<V, L: Level<V>>(
+    places: &mut Places<L>,
+    alloc: Global,
+    at: u32,
+    run: &[Edit<V>],
+    shift: u32,
+) -> Result<Tally, Memory>
+    requires level { shift ≡ L.bits + 4 }
+    requires small { shift ≤ 28 }
+    requires at { at < 16 }
+    requires taken { IsSome (item_at places.old at) }
+    requires run { InPlace (2 ^ shift) at run.now }
+    ensures ok { OnOk result (node_map L.entries L.bits places.new ≡ edited_within
+        (block (L.bits + 4)) (node_map L.entries L.bits places.old) run.now) }
+    ensures err { OnErr result (node_map L.entries L.bits places.new
+        ≡ node_map L.entries L.bits places.old) }
+    ensures counted { IfOk result (λ t. Counts (length (node_map L.entries L.bits places.old))
+        (length (node_map L.entries L.bits places.new)) t.added t.removed) }
+    ensures few { IfOk result
+        (λ t. (t.added ≤ length run.now) × (t.removed ≤ length run.now)) }
+{
+    match places.edit_child(alloc, at, run, shift) {
+        Ok(tally) => {
+            drop_empty(places, at);
+            Ok(tally)
+        }
+        Err(refused) => Err(refused),
+    }
+}
+
+// Frees place `at` where its child is empty.
+fn drop_empty<V, L: Level<V>>(places: &mut Places<L>, at: u32)
+    requires { at < 16 }
+    ensures { node_map L.entries L.bits places.new
+        ≡ node_map L.entries L.bits places.old }
+{
+    if is_empty_child(places.get(at)) {
+        places.clear(at);
+    }
+}
+
+fn is_empty_child<V, L: Level<V>>(child: Option<&L>) -> bool
+    ensures { result ≡ true → part L.entries (option_copied child.entry) ≡ [] }
+{
+    match child {
+        Some(child) => child.is_empty(),
+        None => true,
+    }
+}
+
+/// Edits a node behind a shared pointer where it is, or a copy of it where others hold it.
+pub(crate) fn edit_shared<V, L: Level<V>>(
+    node: &mut Arc<L>,
+    alloc: Global,
+    edits: &[Edit<V>],
+    shift: u32,
+) -> Result<Tally, Memory>
+    requires level { shift ≡ L.bits }
+    requires small { shift ≤ 28 }
+    ensures ok { OnOk result (L.entries (arc_value node.new)
+        ≡ edited_within (block L.bits) (L.entries (arc_value node.old)) edits.now) }
+    ensures err { OnErr result (L.entries (arc_value node.new) ≡ L.entries (arc_value node.old)) }
+    ensures counted { IfOk result (λ t. Counts (length (L.entries (arc_value node.old)))
+        (length (L.entries (arc_value node.new))) t.added t.removed) }
+    ensures few { IfOk result
+        (λ t. (t.added ≤ length edits.now) × (t.removed ≤ length edits.now)) }
+{
+    match Arc::get_mut(node) {
+        Some(own) => own.edit(alloc, edits, shift),
+        None => {
+            let copy = node.edited(alloc, edits, shift)?;
+            *node = Arc::new(alloc, copy.node)?;
+            Ok(copy.tally)
+        }
+    }
+}
+
+// A copy of a child, or a new one, after each edit in turn.
+fn edited_child<V, L: Level<V>>(
+    child: Option<&L>,
+    alloc: Global,
+    edits: &[Edit<V>],
+    shift: u32,
+) -> Result<Edited<L>, Memory>
+    requires level { shift ≡ L.bits }
+    requires small { shift ≤ 28 }
+    ensures ok { IfOk result (λ p. L.entries p.node ≡ edited_within
+        (block L.bits) (part L.entries (option_copied child.entry)) edits.now) }
+    ensures counted { IfOk result (λ p. Counts
+        (length (part L.entries (option_copied child.entry))) (length (L.entries p.node))
+        p.tally.added p.tally.removed) }
+    ensures few { IfOk result
+        (λ p. (p.tally.added ≤ length edits.now) × (p.tally.removed ≤ length edits.now)) }
+{
+    match child {
+        Some(child) => child.edited(alloc, edits, shift),
+        None => L::empty(alloc).edited(alloc, edits, shift),
+    }
+}
+
+// The node to be shared, unless it is empty.
+fn shared<V, L: Level<V>>(alloc: Global, node: L) -> Result<Option<Arc<L>>, Memory>
+    ensures { IfOk result (λ o. part L.entries (option_map arc_value o) ≡ L.entries node) }
+{
+    if node.is_empty() {
+        return Ok(None);
+    }
+    Ok(Some(Arc::new(alloc, node)?))
+}

@@ -1,0 +1,31 @@
+//! A persistent finite map from `u32` keys to shared values, as a tree with sixteen places a node.
+//!
+//! A key is eight nibbles of four bits. The highest chooses a place of the root, the next one a
+//! place of the node that stands there, and the lowest a value of a leaf. Only taken places are
+//! stored: a node keeps a digit for each place, and its items in order. Nodes are shared, so a
+//! changed map copies the nodes on the way to its key, and has all others in common with the map
+//! that it was made of:
+//!
+//! ```text
+//!   old root [ 0  .  2  . ]        new root [ 0  .  2  . ]       key 0x2.. was set:
+//!              |     |                        |     |            one new node a level,
+//!              |     +--- old node            |     +--- new node
+//!              |          [ 5  . ]            |          [ 5  9 ]
+//!              |            |                 |            |  |
+//!              |            +------ shared ---|------------+  +--- new leaf
+//!              +------------------- shared ---+
+//! ```
+
+#![tactic(auto)]
+
+mod entries;
+mod find;
+mod level;
+mod map;
+mod places;
+#[cfg(test)]
+mod tests;
+
+pub use entries::Entries;
+pub use find::FindAll;
+pub use map::Map;

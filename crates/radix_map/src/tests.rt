@@ -1,0 +1,197 @@
+//! Worked rows, that calls succeed with ample memory, and a comparison with std's map.
+
+use crate::Map;
+use std::alloc::{AllocError, Global};
+use std::collections::BTreeMap;
+use std::sync::Arc;
+use std::test::Fail;
+use std::thread::Threads;
+use std::{mem, thread};
+
+const LAST: u32 = 4_294_967_295;
+
+fn map_of(alloc: Global, entries: &[(u32, u64)]) -> Result<Map<u64>, Fail> {
+    let mut map = Map::open(alloc);
+    for entry in entries {
+        map = map.with(entry.0, Arc::new(alloc, entry.1)?)?;
+    }
+    Ok(map)
+}
+
+fn listed(alloc: Global, map: &Map<u64>) -> Result<Vec<(u32, u64)>, Fail> {
+    let mut all = Vec::new(alloc);
+    for (key, value) in map.entries() {
+        all.push((key, *value))?;
+    }
+    Ok(all)
+}
+
+fn found(alloc: Global, map: &Map<u64>, keys: &[u32]) -> Result<Vec<Option<u64>>, Fail> {
+    let mut all = Vec::new(alloc);
+    for value in map.find_all(keys) {
+        all.push(value.copied())?;
+    }
+    Ok(all)
+}
+
+#[test]
+fn tree_first_and_last_key(rt: HostRuntime) -> Result<(), Fail> {
+    let alloc = rt.alloc();
+    let before = map_of(alloc, &[(0, 1), (LAST, 2)])?;
+    let map = before.with(0, Arc::new(alloc, 3)?)?;
+    assert_eq!(rt;
+        listed(alloc, &map)?.as_slice(),
+        [(0, 3), (LAST, 2)].as_slice()
+    );
+    assert_eq!(rt; before.get(0).copied(), Some(1));
+    assert_eq!(rt; map.len(), 2);
+    Ok(())
+}
+
+#[test]
+fn tree_without_a_missing_key(rt: HostRuntime) -> Result<(), Fail> {
+    let alloc = rt.alloc();
+    let map = map_of(alloc, &[(0, 3), (LAST, 2)])?.without(7)?;
+    assert_eq!(rt;
+        listed(alloc, &map)?.as_slice(),
+        [(0, 3), (LAST, 2)].as_slice()
+    );
+    assert_eq!(rt; map.len(), 2);
+    Ok(())
+}
+
+fn some_edits(alloc: Global) -> Result<Vec<(u32, Option<Arc<u64>>)>, Fail> {
+    let mut edits = Vec::new(alloc);
+    edits.push((1, None))?;
+    edits.push((3, Some(Arc::new(alloc, 33)?)))?;
+    edits.push((70_000, Some(Arc::new(alloc, 31)?)))?;
+    Ok(edits)
+}
+
+#[test]
+fn with_all_leaves_the_map_that_it_copies(rt: HostRuntime) -> Result<(), Fail> {
+    let alloc = rt.alloc();
+    let map = map_of(alloc, &[(1, 10), (70_000, 30)])?;
+    let copy = map.with_all(&some_edits(alloc)?)?;
+    assert_eq!(rt;
+        listed(alloc, &copy)?.as_slice(),
+        [(3, 33), (70_000, 31)].as_slice()
+    );
+    assert_eq!(rt;
+        listed(alloc, &map)?.as_slice(),
+        [(1, 10), (70_000, 30)].as_slice()
+    );
+    Ok(())
+}
+
+#[test]
+fn edit_all_leaves_a_map_that_shares_nodes(rt: HostRuntime) -> Result<(), Fail> {
+    let alloc = rt.alloc();
+    let mut map = map_of(alloc, &[(1, 10), (70_000, 30)])?;
+    let kept = map.without(1)?;
+    map.edit_all(&some_edits(alloc)?)?;
+    assert_eq!(rt;
+        listed(alloc, &map)?.as_slice(),
+        [(3, 33), (70_000, 31)].as_slice()
+    );
+    assert_eq!(rt; listed(alloc, &kept)?.as_slice(), [(70_000, 30)].as_slice());
+    Ok(())
+}
+
+#[test]
+fn find_all_answers_in_the_order_of_the_keys(rt: HostRuntime) -> Result<(), Fail> {
+    let alloc = rt.alloc();
+    let map = map_of(alloc, &[(1, 10), (LAST, 30)])?;
+    let values = [Some(10), None, Some(30)];
+    assert_eq!(rt;
+        found(alloc, &map, &[1, 2, LAST])?.as_slice(),
+        values.as_slice()
+    );
+    Ok(())
+}
+
+fn len_in_a_thread(rt: &impl Threads, map: Map<u64>) -> Result<usize, AllocError> {
+    let child = thread::spawn(rt, move || map.len())?;
+    Ok(child.join(rt))
+}
+
+#[test]
+fn a_map_moves_into_a_thread(rt: HostRuntime) -> Result<(), Fail> {
+    let map = map_of(rt.alloc(), &[(5, 1), (6, 2)])?;
+    assert_eq!(rt; len_in_a_thread(&rt, map)?, 2);
+    Ok(())
+}
+
+// One of 600 keys: neighbours, or keys far apart.
+fn key_of(draw: u64) -> u32 {
+    let near = (draw % 600) as u32;
+    if draw % 7 < 3 {
+        near
+    } else {
+        near.wrapping_mul(7_158_279)
+    }
+}
+
+// A map and std's, which have the same edits.
+#[derive(Drop)]
+struct Pair {
+    map: Map<u64>,
+    model: BTreeMap<u32, u64>,
+}
+
+impl Pair {
+    // One edit, and the map that was there before it.
+    fn edit(&mut self, alloc: Global, key: u32, value: Option<u64>) -> Result<Map<u64>, Fail> {
+        let next = match value {
+            Some(value) => {
+                self.model.insert(key, value)?;
+                self.map.with(key, Arc::new(alloc, value)?)?
+            }
+            None => {
+                self.model.remove(&key);
+                self.map.without(key)?
+            }
+        };
+        Ok(mem::replace(&mut self.map, next))
+    }
+
+    fn wanted(&self, alloc: Global) -> Result<Vec<(u32, u64)>, Fail> {
+        let mut all = Vec::new(alloc);
+        for (key, value) in &self.model {
+            all.push((*key, *value))?;
+        }
+        Ok(all)
+    }
+}
+
+// Every 400th map is kept, with what it has.
+#[test]
+fn random_edits_agree_with_a_sorted_map(rt: HostRuntime) -> Result<(), Fail> {
+    let alloc = rt.alloc();
+    let mut pair = Pair {
+        map: Map::open(alloc),
+        model: BTreeMap::new(alloc),
+    };
+    let mut kept = Vec::new(alloc);
+    let mut wanted = Vec::new(alloc);
+    let mut draw: u64 = 1;
+    for step in 0..4000u64 {
+        draw = draw.wrapping_mul(48_271) % 2_147_483_647;
+        if step % 400 == 0 {
+            wanted.push(pair.wanted(alloc)?)?;
+        }
+        let value = if draw % 4 == 0 { None } else { Some(step) };
+        let before = pair.edit(alloc, key_of(draw), value)?;
+        if step % 400 == 0 {
+            kept.push(before)?;
+        }
+    }
+    assert_eq!(rt;
+        listed(alloc, &pair.map)?.as_slice(),
+        pair.wanted(alloc)?.as_slice()
+    );
+    for (map, entries) in kept.iter().zip(wanted.iter()) {
+        assert_eq!(rt; listed(alloc, map)?.as_slice(), entries.as_slice());
+    }
+    Ok(())
+}
