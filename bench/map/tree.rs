@@ -1,35 +1,9 @@
 //! The tree of `radix_map` in plain Rust, with the same layout and the same walks, and std's
-//! `BTreeMap` beside it. It takes the words of `bench_map` and prints the same counts; `bytes`
-//! prints how many bytes an entry of 10,000 a round takes.
+//! `BTreeMap` beside it: it takes the words of `bench_map`, and for `get` the word `btree` more. It
+//! prints the same counts.
 
-use std::alloc::{GlobalAlloc, Layout, System};
 use std::collections::BTreeMap;
 use std::sync::Arc;
-use std::sync::atomic::{AtomicUsize, Ordering};
-
-struct Counting;
-
-static HELD: AtomicUsize = AtomicUsize::new(0);
-static COUNTS: std::sync::atomic::AtomicBool = std::sync::atomic::AtomicBool::new(false);
-
-unsafe impl GlobalAlloc for Counting {
-    unsafe fn alloc(&self, layout: Layout) -> *mut u8 {
-        if COUNTS.load(Ordering::Relaxed) {
-            HELD.fetch_add(layout.size(), Ordering::Relaxed);
-        }
-        unsafe { System.alloc(layout) }
-    }
-
-    unsafe fn dealloc(&self, at: *mut u8, layout: Layout) {
-        if COUNTS.load(Ordering::Relaxed) {
-            HELD.fetch_sub(layout.size(), Ordering::Relaxed);
-        }
-        unsafe { System.dealloc(at, layout) }
-    }
-}
-
-#[global_allocator]
-static ALLOCATOR: Counting = Counting;
 
 type Edit<V> = (u32, Option<Arc<V>>);
 
@@ -92,17 +66,11 @@ impl<T> Places<T> {
     }
 }
 
-struct Edited<L> {
-    node: L,
-    added: usize,
-    removed: usize,
-}
-
 trait Level<V>: Sized {
     fn empty() -> Self;
     fn is_empty(&self) -> bool;
     fn get(&self, key: u32, shift: u32) -> Option<&V>;
-    fn edited(&self, edits: &[Edit<V>], shift: u32) -> Edited<Self>;
+    fn copy(&self, more: usize) -> Self;
     fn edit(&mut self, edits: &[Edit<V>], shift: u32) -> (usize, usize);
 }
 
@@ -141,24 +109,18 @@ impl<V> Level<V> for Leaf<V> {
         self.places.get(key & 15)
     }
 
-    fn edited(&self, edits: &[Edit<V>], _shift: u32) -> Edited<Self> {
-        let mut places = self.places.copy(edits.len());
+    fn copy(&self, more: usize) -> Self {
+        Leaf { places: self.places.copy(more) }
+    }
+
+    fn edit(&mut self, edits: &[Edit<V>], _shift: u32) -> (usize, usize) {
         let (mut added, mut removed) = (0, 0);
         for edit in edits {
-            let one = edit_value(&mut places, edit);
+            let one = edit_value(&mut self.places, edit);
             added += one.0;
             removed += one.1;
         }
-        Edited { node: Leaf { places }, added, removed }
-    }
-
-    fn edit(&mut self, edits: &[Edit<V>], shift: u32) -> (usize, usize) {
-        if let [edit] = edits {
-            return edit_value(&mut self.places, edit);
-        }
-        let copy = self.edited(edits, shift);
-        *self = copy.node;
-        (copy.added, copy.removed)
+        (added, removed)
     }
 }
 
@@ -181,49 +143,53 @@ impl<V, L: Level<V>> Level<V> for Node<L> {
         self.places.get(place(key, shift))?.get(key, shift - 4)
     }
 
-    fn edited(&self, edits: &[Edit<V>], shift: u32) -> Edited<Self> {
-        let mut places = self.places.copy(edits.len());
+    fn copy(&self, more: usize) -> Self {
+        Node { places: self.places.copy(more) }
+    }
+
+    fn edit(&mut self, edits: &[Edit<V>], shift: u32) -> (usize, usize) {
         let (mut added, mut removed) = (0, 0);
         let mut rest = edits;
         while !rest.is_empty() {
             let at = place(rest[0].0, shift);
             let (run, later) = rest.split_at(run_length(rest, shift));
-            let child = match places.get(at) {
-                Some(child) => child.edited(run, shift - 4),
-                None => L::empty().edited(run, shift - 4),
-            };
-            added += child.added;
-            removed += child.removed;
-            places.put(at, (!child.node.is_empty()).then(|| Arc::new(child.node)));
+            let one = edit_run(&mut self.places, at, run, shift);
+            added += one.0;
+            removed += one.1;
             rest = later;
         }
-        Edited { node: Node { places }, added, removed }
+        (added, removed)
     }
+}
 
-    fn edit(&mut self, edits: &[Edit<V>], shift: u32) -> (usize, usize) {
-        if let Some(first) = edits.first() {
-            let at = place(first.0, shift);
-            if run_length(edits, shift) == edits.len() && self.places.get(at).is_some() {
-                let low = self.places.rank(at);
-                let item = &mut self.places.items[low];
-                let tally = match Arc::get_mut(item) {
-                    Some(child) => child.edit(edits, shift - 4),
-                    None => {
-                        let copy = item.edited(edits, shift - 4);
-                        *item = Arc::new(copy.node);
-                        (copy.added, copy.removed)
-                    }
-                };
-                if item.is_empty() {
-                    self.places.put(at, None);
-                }
-                return tally;
-            }
-        }
-        let copy = self.edited(edits, shift);
-        *self = copy.node;
-        (copy.added, copy.removed)
+// A child that nobody else holds is changed where it is, and one that others hold is copied first.
+fn edit_run<V, L: Level<V>>(
+    places: &mut Places<L>,
+    at: u32,
+    run: &[Edit<V>],
+    shift: u32,
+) -> (usize, usize) {
+    if places.get(at).is_none() {
+        let mut child = L::empty().copy(run.len());
+        let tally = child.edit(run, shift - 4);
+        places.put(at, (!child.is_empty()).then(|| Arc::new(child)));
+        return tally;
     }
+    let low = places.rank(at);
+    let item = &mut places.items[low];
+    let tally = match Arc::get_mut(item) {
+        Some(child) => child.edit(run, shift - 4),
+        None => {
+            let mut copy = item.copy(run.len());
+            let tally = copy.edit(run, shift - 4);
+            *item = Arc::new(copy);
+            tally
+        }
+    };
+    if item.is_empty() {
+        places.put(at, None);
+    }
+    tally
 }
 
 type Node1<V> = Node<Leaf<V>>;
@@ -365,8 +331,9 @@ impl<V> Map<V> {
     }
 
     fn with_all(&self, edits: &[Edit<V>]) -> Map<V> {
-        let copy = self.root.edited(edits, 28);
-        Map { len: self.len + copy.added - copy.removed, root: copy.node }
+        let mut root = self.root.copy(edits.len());
+        let (added, removed) = root.edit(edits, 28);
+        Map { len: self.len + added - removed, root }
     }
 
     fn edit_all(&mut self, edits: &[Edit<V>]) {
@@ -438,18 +405,7 @@ fn main() {
             }
             map.len as u64
         }
-        "get" => {
-            let map = random_map(100_000);
-            let mut count = 0;
-            for _ in 0..rounds {
-                let mut draws = Draws::start();
-                for m in 0..100_000 {
-                    count += u64::from(map.get(draws.next() ^ (m & 1)).is_some());
-                }
-            }
-            count
-        }
-        "btree_get" => {
+        "get" if words.get(3).is_some_and(|form| form == "btree") => {
             let value: Arc<u64> = Arc::new(7);
             let mut draws = Draws::start();
             let map: BTreeMap<u32, Arc<u64>> =
@@ -459,6 +415,17 @@ fn main() {
                 let mut draws = Draws::start();
                 for m in 0..100_000 {
                     count += u64::from(map.get(&(draws.next() ^ (m & 1))).is_some());
+                }
+            }
+            count
+        }
+        "get" => {
+            let map = random_map(100_000);
+            let mut count = 0;
+            for _ in 0..rounds {
+                let mut draws = Draws::start();
+                for m in 0..100_000 {
+                    count += u64::from(map.get(draws.next() ^ (m & 1)).is_some());
                 }
             }
             count
@@ -473,13 +440,6 @@ fn main() {
                 }
             }
             count
-        }
-        "bytes" => {
-            COUNTS.store(true, Ordering::Relaxed);
-            let map = random_map(rounds * 10_000);
-            let held = HELD.load(Ordering::Relaxed);
-            COUNTS.store(false, Ordering::Relaxed);
-            (held / map.len) as u64
         }
         _ => {
             if let Some(line) = work.strip_prefix("with_all_") {

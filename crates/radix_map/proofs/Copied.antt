@@ -1,6 +1,5 @@
 -- The places of a node after one of them was filled or freed: its items are those below, the new one, and those above.
-use Rattle.std.proofs.Common.{◌≡◌, ℕ, suc, zero, ◌+◌, ◌-◌, ◌<◌, ◌≤◌, List, [], ◌∷◌, ◌++◌, length, take, drop, map, set, insert, remove, Option, Some, None, is_some, option_to_list, refl, sym, ap, ◌∙◌, subst, arith, length-append, length-drop, append_assoc}
-use Rattle.radix_map.proofs.Trees.{of_none}
+use Rattle.std.proofs.Common.{◌≡◌, ℕ, suc, zero, ◌+◌, ◌<◌, List, [], ◌∷◌, ◌++◌, length, take, drop, map, set, insert, remove, Option, Some, None, is_some, option_to_list, refl, sym, ap, ◌∙◌, subst, arith, length-append, length-drop}
 use Rattle.std.proofs.lemmas.List.{take-append-drop, take-map, drop-map, length-map, length-take-le, map-append}
 use Rattle.std.specs.Int.{bit_at}
 use Rattle.radix_map.specs.Places.{places_of, taken, digit_of, Replaces}

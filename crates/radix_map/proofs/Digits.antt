@@ -1,5 +1,5 @@
 -- The places of a node when one of them changes, by induction on the place: its digit and its item change, and all others stay.
-use Rattle.std.proofs.Common.{◌⊎◌, inl, inr, ◌≡◌, ℕ, zero, suc, ◌+◌, ◌-◌, ◌*◌, ◌/◌, ◌%◌, ◌^◌, ◌<◌, ◌≤◌, List, [], ◌∷◌, ◌++◌, length, set, Option, Some, None, option_to_list, refl, sym, ap, ◌∙◌, subst, rules, arith, count_ones, replicate, is_some, take, drop, get_or, bit_and, bit_or}
+use Rattle.std.proofs.Common.{◌⊎◌, inl, inr, ◌≡◌, ℕ, zero, suc, ◌+◌, ◌-◌, ◌*◌, ◌/◌, ◌%◌, ◌^◌, ◌<◌, ◌≤◌, List, [], ◌∷◌, ◌++◌, length, set, Option, Some, None, option_to_list, refl, sym, ap, ◌∙◌, subst, arith, count_ones, replicate, is_some, take, drop, get_or, bit_and, bit_or}
 use Rattle.std.specs.Int.{bit_at, trailing_zeros}
 use mir.Syntax.{w32}
 use Rattle.std.proofs.lemmas.Nat.Bits.{bit_at-suc, bit_at_lowest, bit_at-lt, bit_at-zero, bit_at_above, bit_at-trailing_zeros, and_pow}

@@ -1,5 +1,5 @@
 -- One child of a node was changed where it stands: what the node's entries became follows from what the child's became.
-use Rattle.std.proofs.Common.{◌≡◌, ℕ, suc, zero, ◌+◌, ◌*◌, ◌^◌, ◌<◌, ◌≤◌, List, [], ◌∷◌, length, take, set, map, get_or, is_some, Option, Some, None, Result, Ok, Err, OnOk, OnErr, IfOk, IsSome, refl, sym, ap, ◌∙◌, subst, arith}
+use Rattle.std.proofs.Common.{◌≡◌, ℕ, suc, zero, ◌+◌, ◌*◌, ◌^◌, ◌<◌, List, length, take, set, map, get_or, Option, Some, Result, Ok, Err, OnOk, OnErr, IfOk, IsSome, refl, sym, ap, ◌∙◌, subst, arith}
 use Rattle.std.specs.Int.{bit_at}
 use Rattle.std.specs.declared.sync.Arc.{Arc}
 use Rattle.std.proofs.lemmas.Bool.{false≢true}
@@ -10,7 +10,7 @@ use Rattle.radix_map.specs.Places.{item_at, places_of, taken}
 use Rattle.radix_map.specs.Entries.{edited_within, entries_of, part, joined, Rises, InPlace, Counts}
 use Rattle.radix_map.proofs.Digits.{free_place, taken_place, places-length}
 use Rattle.radix_map.proofs.Copied.{refilled}
-use Rattle.radix_map.proofs.Trees.{map-set, take-set, set-own, part_at, node_edited, node_counted}
+use Rattle.radix_map.proofs.Trees.{map-set, take-set, set-own, part_at, node_edited, node_anew, node_counted}
 
 -- b took the place of a
 pub record IsChange {T : Type 0} (xs ys : List (Option T)) (i : ℕ) (a b : T) : Type 0 where
@@ -29,6 +29,11 @@ change_ok (Ok x) f s h xs ys shift i a b run e l n c k =
     ap (entries_of f (2 ^ (s + 4))) c.is ∙ node_edited f s h xs shift i (Some a) (Some b) run e l c.wide n (sym c.was) k
 change_ok (Err x) f s h xs ys shift i a b run e l n c k = k
 
+pub change_anew : {T V Z E X : Type 0} (r : Result X E) (f : T → List (ℕ × V)) (s : ℕ) → ((x : T) → Rises 0 (16 * 2 ^ s) (f x)) → (xs ys : List (Option T)) (shift i : ℕ) (a b : T) (run : List (ℕ × Option (Arc V Z))) → shift ≡ s + 4 → i < 16 → InPlace (2 ^ shift) i run → IsChange xs ys i a b → OnErr r (edited_within (16 * 2 ^ s) (f b) run ≡ edited_within (16 * 2 ^ s) (f a) run) → OnErr r (edited_within (16 * 2 ^ (s + 4)) (entries_of f (2 ^ (s + 4)) ys) run ≡ edited_within (16 * 2 ^ (s + 4)) (entries_of f (2 ^ (s + 4)) xs) run)
+change_anew (Ok x) f s h xs ys shift i a b run e l n c k = k
+change_anew (Err x) f s h xs ys shift i a b run e l n c k =
+    ap (λ zs. edited_within (16 * 2 ^ (s + 4)) (entries_of f (2 ^ (s + 4)) zs) run) c.is ∙ node_anew f s h xs shift i (Some a) (Some b) run e l c.wide n (sym c.was) k
+
 pub change_err : {T V E X : Type 0} (r : Result X E) (f : T → List (ℕ × V)) (step : ℕ) (xs ys : List (Option T)) (i : ℕ) (a b : T) → i < 16 → IsChange xs ys i a b → OnErr r (f b ≡ f a) → OnErr r (entries_of f step ys ≡ entries_of f step xs)
 change_err (Ok x) f step xs ys i a b l c k = k
 change_err (Err x) f step xs ys i a b l c k = ap (entries_of f step) c.is ∙ node_same f step i xs (Some b) l (k ∙ ap (part f) (sym c.was))
@@ -46,11 +51,6 @@ taken_digit i b ys l n h = by_digit (bit_at b i) refl
     by_digit zero e = absurd (false≢true (subst IsSome (free_place 16 i b ys l n e) h))
     by_digit (suc zero) e = refl
     by_digit (suc (suc d)) e = let k = bit_at-lt b i in absurd (omega arith)
-
-pub lone_edit : {X : Type 0} (xs : List X) (x : X) → 1 ≤ length xs → length xs < 2 → x ≡ get_or xs 0 x → xs ≡ x ∷ []
-lone_edit [] x l h e = absurd (omega arith)
-lone_edit (y ∷ []) x l h e = ap (λ t. t ∷ []) (sym e)
-lone_edit (y ∷ z ∷ xs) x l h e = absurd (omega arith)
 
 -- the item of a taken place, which stands at the number of taken places below it, was changed
 pub item_changed : {A T : Type 0} (f : A → T) (i b low : ℕ) (xs : List A) (old new : A) (now : List (Option T)) → places_of 16 b (map f xs) ≡ now → length xs ≡ taken 16 b → i < 16 → IsSome (item_at now i) → low ≡ taken i b → old ≡ get_or xs low old → IsChange now (places_of 16 b (map f (set xs low new))) i (f old) (f new)

@@ -1,5 +1,5 @@
 -- A key is looked up and changed in a list of two parts in the part where it belongs, and in a raised list at the lower key. The parts rise, and the key lies below the second or not below the end of the first.
-use Rattle.std.proofs.Common.{◌≡◌, ℕ, suc, zero, ◌+◌, ◌*◌, ◌-◌, ◌<◌, ◌≤◌, List, [], ◌∷◌, ◌++◌, length, Bool, true, false, cond, is_some, is_eq, nat_cmp, Option, Some, None, refl, sym, ap, ◌∙◌, subst, arith}
+use Rattle.std.proofs.Common.{◌≡◌, ℕ, ◌+◌, ◌<◌, ◌≤◌, List, [], ◌∷◌, ◌++◌, Bool, true, false, cond, is_eq, nat_cmp, Option, Some, None, refl, sym, ap, ◌∙◌, subst, arith}
 use Rattle.std.specs.declared.cmp.Ordering.{Ordering}
 use Rattle.std.specs.declared.cmp.Ordering.TheVariants.{Less, Equal, Greater}
 use Rattle.std.specs.Ordering.{MatchOrdering, match_ordering}
@@ -51,7 +51,7 @@ value-raised b k (e ∷ es) =
 
 -- ---- a key set
 
-with_below : {V : Type 0} (k a b : ℕ) (v : V) (es : List (ℕ × V)) → Rises a b es → k < a → with_key es k v ≡ (k, v) ∷ es
+pub with_below : {V : Type 0} (k a b : ℕ) (v : V) (es : List (ℕ × V)) → Rises a b es → k < a → with_key es k v ≡ (k, v) ∷ es
 with_below k a b v [] h l = refl
 with_below k a b v (e ∷ es) h l =
     let first = h.0 in
@@ -86,7 +86,7 @@ with-raised b k v (e ∷ es) =
 
 -- ---- a key removed
 
-without_below : {V : Type 0} (k a b : ℕ) (es : List (ℕ × V)) → Rises a b es → k < a → without_key es k ≡ es
+pub without_below : {V : Type 0} (k a b : ℕ) (es : List (ℕ × V)) → Rises a b es → k < a → without_key es k ≡ es
 without_below k a b [] h l = refl
 without_below k a b (e ∷ es) h l =
     let first = h.0 in

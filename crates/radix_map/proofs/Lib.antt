@@ -1,7 +1,10 @@
+pub mod Carried
 pub mod Copied
 pub mod Digits
 pub mod Edits
 pub mod Keys
+pub mod Noted
 pub mod Roots
 pub mod Trees
+pub mod Values
 pub mod Walks

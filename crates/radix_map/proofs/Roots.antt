@@ -1,12 +1,16 @@
 -- The root: its keys rise below 2 ^ 32, so that it has no more entries than that, and edits at keys below it need no width.
-use Rattle.std.proofs.Common.{◌≡◌, ℕ, ◌+◌, ◌*◌, ◌%◌, ◌^◌, ◌<◌, ◌≤◌, List, [], ◌∷◌, length, Option, option_map, refl, ap, ◌∙◌, arith}
+use Rattle.std.proofs.Common.{◌≡◌, ℕ, ◌+◌, ◌*◌, ◌^◌, ◌≤◌, List, [], ◌∷◌, length, Option, Some, None, option_map, true, Vec, vec_len, ◌==◌, refl, sym, ap, ◌∙◌, subst, arith}
 use Rattle.std.proofs.Math.Nat.{mod-eq_of_lt}
 use Rattle.std.specs.Arc.{arc_value}
 use Rattle.std.specs.declared.sync.Arc.{Arc}
 use Rattle.radix_map.specs.declared.level.Leaf.{Leaf}
 use Rattle.radix_map.specs.declared.level.Node.{Node}
-use Rattle.radix_map.specs.Entries.{edited, edited_all, edited_within, KeysFit, Rises}
+use Rattle.radix_map.specs.Entries.{value_at, edited, edited_all, edited_within, KeysFit, Rises}
 use Rattle.radix_map.specs.Map.{leaf_entries, node_entries, root_entries}
+use Rattle.radix_map.specs.Pending.{edit_or}
+use borrow.Author.Tests.{eqb-true}
+use Rattle.radix_map.proofs.Noted.{value_noted, fit_from_rises, no_items}
+use Rattle.radix_map.proofs.Values.{within_rises}
 use Rattle.radix_map.specs.Rising.{leaf_rises, node_rises, rises-length}
 
 abbrev Within : {T V : Type 0} → (T → List (ℕ × V)) → ℕ → Type 0
@@ -34,3 +38,44 @@ unfolding edited_within edited_all
 within_all es [] h = refl
 within_all es (e ∷ edits) h =
     ap (λ k. edited_within 4294967296 (edited es k (option_map arc_value e.1)) edits) (mod-eq_of_lt h.0) ∙ within_all (edited es e.0 (option_map arc_value e.1)) edits h.1
+
+-- ---- what is found at a key, where edits are noted over the root
+
+pub found_set : {V Z : Type 0} (x : Node (Node (Node (Node (Node (Node (Node (Leaf V)))))))) (k : ℕ) (ps : List (ℕ × Option (Arc V Z))) (e : Option (Arc V Z)) (r : Option V) → Rises 0 4294967296 ps → Some e ≡ value_at k ps → r ≡ option_map arc_value e → r ≡ value_at k (edited_all (root_entries x) ps)
+found_set x k ps e r h s q =
+    q ∙ ap (λ o. edit_or o (value_at k (root_entries x))) s ∙ sym (value_noted k 0 4294967296 (root_entries x) ps (root_rises x) h)
+
+pub found_below : {V Z : Type 0} (x : Node (Node (Node (Node (Node (Node (Node (Leaf V)))))))) (k : ℕ) (ps : List (ℕ × Option (Arc V Z))) (r : Option V) → Rises 0 4294967296 ps → None ≡ value_at k ps → r ≡ value_at k (root_entries x) → r ≡ value_at k (edited_all (root_entries x) ps)
+found_below x k ps r h s q =
+    q ∙ ap (λ o. edit_or o (value_at k (root_entries x))) s ∙ sym (value_noted k 0 4294967296 (root_entries x) ps (root_rises x) h)
+
+-- ---- a root after edits
+
+pub root_edited : {V Z : Type 0} (x y z : Node (Node (Node (Node (Node (Node (Node (Leaf V)))))))) (ps qs : List (ℕ × Option (Arc V Z))) → ps ≡ qs → KeysFit ps → root_entries x ≡ root_entries z → root_entries y ≡ edited_within 4294967296 (root_entries x) ps → root_entries y ≡ edited_all (root_entries z) qs
+root_edited x y z ps qs e fit s h =
+    h ∙ ap (λ es. edited_within 4294967296 es ps) s ∙ within_all (root_entries z) ps fit ∙ ap (edited_all (root_entries z)) e
+
+-- edits that stopped on their way, and count over the root, make what they would have made before
+pub root_anew : {V Z : Type 0} (x y : Node (Node (Node (Node (Node (Node (Node (Leaf V)))))))) (ps qs : List (ℕ × Option (Arc V Z))) → ps ≡ qs → KeysFit ps → edited_within 4294967296 (root_entries y) ps ≡ edited_within 4294967296 (root_entries x) ps → edited_all (root_entries y) qs ≡ edited_all (root_entries x) qs
+root_anew x y ps qs e fit h =
+    ap (edited_all (root_entries y)) (sym e) ∙ sym (within_all (root_entries y) ps fit) ∙ h ∙ within_all (root_entries x) ps fit ∙ ap (edited_all (root_entries x)) e
+
+pub no_edits : {V Z : Type 0} (es : List (ℕ × V)) (ps : List (ℕ × Option (Arc V Z))) → ps ≡ [] → edited_all es ps ≡ es
+unfolding edited_all
+no_edits es ps e = ap (edited_all es) e
+
+pub none_rise : {V Z : Type 0} (ps : List (ℕ × Option (Arc V Z))) → ps ≡ [] → Rises 0 4294967296 ps
+none_rise {V} {Z} ps e = let none : Rises {V = Option (Arc V Z)} 0 4294967296 [] = omega arith in subst (Rises 0 4294967296) (sym e) none
+
+pub edited_size : {V Z : Type 0} (x : Node (Node (Node (Node (Node (Node (Node (Leaf V)))))))) (ps : List (ℕ × Option (Arc V Z))) → Rises 0 4294967296 ps → length (edited_all (root_entries x) ps) ≤ 4294967296
+edited_size x ps h =
+    let within = edited_within 4294967296 (root_entries x) ps in
+    let same = ap length (within_all (root_entries x) ps (fit_from_rises 0 ps h)) in
+    let size = rises-length 0 4294967296 within (within_rises 4294967296 (root_entries x) ps (omega arith) (root_rises x)) in
+    omega arith
+
+pub nothing_noted : {T Z : Type 0} (v : Vec T Z) → true ≡ (vec_len v == 0) → v.items ≡ []
+nothing_noted v e =
+    let none : vec_len v ≡ 0 = eqb-true (vec_len v) 0 (sym e) in
+    let ok = v.ok in
+    no_items v.items (omega arith)

@@ -1,10 +1,9 @@
 -- What a path into a map finds: the entries of the nodes that it leads through.
-use Rattle.std.specs.Prelude.{ℕ, ◌+◌, ◌^◌, List}
+use Rattle.std.specs.Prelude.{ℕ, List}
 use Rattle.radix_map.specs.declared.level.Leaf.{Leaf}
 use Rattle.radix_map.specs.declared.level.Node.{Node}
 use Rattle.radix_map.specs.declared.find.LeafFinger.{LeafFinger}
 use Rattle.radix_map.specs.declared.find.NodeFinger.{NodeFinger}
-use Rattle.radix_map.specs.Entries.{entries_of, single}
 use Rattle.radix_map.specs.Map.{leaf_entries, node_entries}
 use Rattle.radix_map.specs.Inner.{IsFingerOf}
 

@@ -2,6 +2,7 @@ pub mod Entries
 pub mod Fingers
 pub mod Inner
 pub mod Map
+pub mod Pending
 pub mod Places
 pub mod Rising
 pub mod Walks

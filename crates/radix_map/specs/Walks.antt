@@ -1,5 +1,6 @@
 -- What is left of a walk over a map: the entries that were not yet given.
-use Rattle.std.specs.Prelude.{ℕ, ◌+◌, ◌*◌, ◌^◌, ◌≤◌, Option, Some, None, List, ◌++◌}
+use Rattle.std.specs.Prelude.{ℕ, ◌+◌, ◌*◌, ◌^◌, ◌≤◌, Option, Some, None, List, ◌∷◌, ◌++◌}
+use Rattle.std.specs.Borrow.{Bor}
 use Rattle.radix_map.specs.declared.level.Leaf.{Leaf}
 use Rattle.radix_map.specs.declared.level.Node.{Node}
 use Rattle.radix_map.specs.declared.entries.LeafWalk.{LeafWalk}
@@ -43,3 +44,8 @@ root_left w =
 abbrev pub root_sound : {V : Type 0} → RootWalk V → Type 0
 root_sound w =
     node_sound (node_sound (node_sound (node_sound (node_sound (node_sound (node_sound leaf_sound 0) 4) 8) 12) 16) 20) 24 w
+
+-- the entry that waits before the others, if there is one, and the others
+abbrev pub behind_first : {V : Type 0} → Option (ℕ × Bor V) → List (ℕ × V) → List (ℕ × V)
+behind_first None es = es
+behind_first (Some e) es = (e.0, e.1.now) ∷ es

@@ -1,12 +1,19 @@
 //! A walk over the entries of a map by rising key, which visits stored nodes alone.
 
 ghost use Rattle.std.specs.Prelude.{◌≡◌, ℕ, ◌+◌, ◌*◌, ◌^◌, ◌<◌, ◌≤◌, ◌∷◌, List, [], ◌++◌, MatchOption};
-ghost use Rattle.radix_map.specs.Entries.{raised, entries_behind, part, single};
+ghost use Rattle.std.specs.Prelude.{IfNone, IfSome};
+ghost use Rattle.radix_map.specs.Entries.{raised, entries_behind, part, single, edited_all, Rises};
+ghost use Rattle.radix_map.specs.Pending.{IsPast};
 ghost use Rattle.radix_map.specs.Map.{root_entries};
 ghost use Rattle.std.specs.Iterator.{YieldsFirstBy, item_count};
 ghost use Rattle.radix_map.specs.Inner.{inner_sound};
+ghost use Rattle.radix_map.specs.Walks.{root_left, root_sound, behind_first};
 
-use crate::level::{Leaf, Level, Node, Node1, Node2, Node3, Node4, Node5, Node6, ROOT_SHIFT, Root};
+use crate::level::{
+    Edit, Leaf, Level, Node, Node1, Node2, Node3, Node4, Node5, Node6, ROOT_SHIFT, Root,
+};
+use crate::pending::set_value;
+use std::cmp::Ordering;
 use std::marker::Model;
 
 type Walk1<'a, V> = NodeWalk<'a, Leaf<V>, LeafWalk<'a, V>>;
@@ -23,29 +30,33 @@ type Walk6<'a, V> = NodeWalk<'a, Node5<V>, Walk5<'a, V>>;
 
 type RootWalk<'a, V> = NodeWalk<'a, Node6<V>, Walk6<'a, V>>;
 
-/// The entries of a map that were not yet given, by rising key.
+/// The entries of a map that were not yet given, by rising key: those of its tree, and over them
+/// the edits that it has noted.
 #[derive(Drop)]
 pub struct Entries<'a, V> {
-    walk: RootWalk<'a, V>,
+    tree: TreeEntries<'a, V>,
+    pending: &'a [Edit<V>],
 }
 
 impl<'a, V> Model for Entries<'a, V> {
     ghost use Rattle.std.specs.Prelude.{ℕ, List};
-    ghost use Rattle.radix_map.specs.Walks.{root_left, root_sound};
+    ghost use Rattle.radix_map.specs.Entries.{edited_all, Rises};
 
     ghost Value = { List (ℕ × V) };
 
-    ghost view = { λ e. root_left e.walk };
+    ghost view = { λ e. edited_all e.tree e.pending.now };
 
-    ghost invariant = { λ e. root_sound e.walk };
+    ghost invariant = { λ e. Rises 0 4294967296 e.tree × Rises 0 4294967296 e.pending.now };
 }
 
 impl<'a, V: Drop> Entries<'a, V> {
-    pub(crate) fn of(root: &'a Root<V>) -> Entries<'a, V>
-        ensures { result ≡ root_entries root.now }
+    pub(crate) fn of(root: &'a Root<V>, pending: &'a [Edit<V>]) -> Entries<'a, V>
+        requires { Rises 0 4294967296 pending.now }
+        ensures { result ≡ edited_all (root_entries root.now) pending.now }
     {
         Entries {
-            walk: Walk::begin(root, 0),
+            tree: TreeEntries::of(root),
+            pending,
         }
     }
 }
@@ -58,7 +69,107 @@ impl<'a, V: Drop> Iterator for Entries<'a, V> {
     ghost remaining = { item_count (λ s. s) };
 
     fn next(&mut self) -> Option<(u32, &'a V)> {
-        self.walk.step(ROOT_SHIFT)
+        first_edited(&mut self.tree, &mut self.pending)
+    }
+}
+
+// The first entry of the tree after the edits.
+fn first_edited<'a, V: Drop>(
+    tree: &mut TreeEntries<'a, V>,
+    pending: &mut &'a [Edit<V>],
+) -> Option<(u32, &'a V)>
+    requires tree { Rises 0 4294967296 tree.old }
+    requires edits { Rises 0 4294967296 pending.old.now }
+    ensures first { MatchOption result ((edited_all tree.old pending.old.now ≡ [])
+        × (edited_all tree.new pending.new.now ≡ []))
+        (λ p. edited_all tree.old pending.old.now
+        ≡ (p.0, p.1.now) ∷ edited_all tree.new pending.new.now) }
+    ensures tree { Rises 0 4294967296 tree.new }
+    ensures edits { Rises 0 4294967296 pending.new.now }
+{
+    while let Some((edit, later)) = pending.split_first() {
+        match tree.next_before(edit.0) {
+            Some(entry) => return Some(entry),
+            None => {}
+        }
+        *pending = later;
+        match set_value(&edit.1) {
+            Some(value) => return Some((edit.0, value)),
+            None => {}
+        }
+    }
+    tree.next()
+}
+
+/// The entries of a tree that were not yet given, the first of which may wait here.
+#[derive(Drop)]
+struct TreeEntries<'a, V> {
+    first: Option<(u32, &'a V)>,
+    walk: RootWalk<'a, V>,
+}
+
+impl<'a, V> Model for TreeEntries<'a, V> {
+    ghost use Rattle.std.specs.Prelude.{ℕ, List};
+    ghost use Rattle.radix_map.specs.Walks.{root_left, root_sound, behind_first};
+
+    ghost Value = { List (ℕ × V) };
+
+    ghost view = { λ e. behind_first e.first (root_left e.walk) };
+
+    ghost invariant = { λ e. root_sound e.walk };
+}
+
+impl<'a, V: Drop> TreeEntries<'a, V> {
+    fn of(root: &'a Root<V>) -> TreeEntries<'a, V>
+        ensures { result ≡ root_entries root.now }
+    {
+        TreeEntries {
+            first: None,
+            walk: Walk::begin(root, 0),
+        }
+    }
+
+    // The first entry.
+    fn next(&mut self) -> Option<(u32, &'a V)>
+        ensures { MatchOption result ((self.old ≡ []) × (self.new ≡ []))
+            (λ p. self.old ≡ (p.0, p.1.now) ∷ self.new) }
+    {
+        first_of(self.first.take(), &mut self.walk)
+    }
+
+    // The first entry, where its key is below this one. An entry at this key is dropped.
+    fn next_before(&mut self, key: u32) -> Option<(u32, &'a V)>
+        ensures none { IfNone result (IsPast key self.old self.new) }
+        ensures some { IfSome result
+            (λ p. (p.0 < key) × (self.old ≡ (p.0, p.1.now) ∷ self.new)) }
+    {
+        let entry = first_of(self.first.take(), &mut self.walk)?;
+        match entry.0.cmp(&key) {
+            Ordering::Less => Some(entry),
+            Ordering::Equal => None,
+            Ordering::Greater => {
+                self.first = Some(entry);
+                None
+            }
+        }
+    }
+}
+
+// The entry that waits, if there is one, and the first of the walk else.
+fn first_of<'a, V: Drop>(
+    waiting: Option<(u32, &'a V)>,
+    walk: &mut RootWalk<'a, V>,
+) -> Option<(u32, &'a V)>
+    requires { root_sound walk.old }
+    ensures first { MatchOption result
+        ((behind_first waiting.entry (root_left walk.old) ≡ []) × (root_left walk.new ≡ []))
+        (λ p. behind_first waiting.entry (root_left walk.old)
+        ≡ (p.0, p.1.now) ∷ root_left walk.new) }
+    ensures sound { root_sound walk.new }
+{
+    match waiting {
+        Some(entry) => Some(entry),
+        None => walk.step(ROOT_SHIFT),
     }
 }
 

@@ -2,14 +2,15 @@
 
 ghost use Rattle.std.specs.Prelude.{◌≡◌, ℕ, ◌+◌, ◌%◌, ◌≤◌, List, option_copied, map, Option};
 ghost use Rattle.std.specs.Iterator.{YieldsFirstBy, item_count};
-ghost use Rattle.radix_map.specs.Entries.{value_at, leaf_map, node_map, block};
+ghost use Rattle.radix_map.specs.Entries.{value_at, edited_all, leaf_map, node_map, block, Rises};
 ghost use Rattle.radix_map.specs.Inner.{IsFingerOf};
 ghost use Rattle.radix_map.specs.Map.{root_entries};
 ghost use Rattle.radix_map.specs.Fingers.{root_found, root_sound};
 
 use crate::level::{
-    Leaf, Level, Node, Node1, Node2, Node3, Node4, Node5, Node6, ROOT_SHIFT, Root, place,
+    Edit, Leaf, Level, Node, Node1, Node2, Node3, Node4, Node5, Node6, ROOT_SHIFT, Root, place,
 };
+use crate::pending::{edit_at, set_value};
 use std::marker::Model;
 
 type Finger1<'a, V> = NodeFinger<'a, Leaf<V>, LeafFinger<'a, V>>;
@@ -31,27 +32,32 @@ type RootFinger<'a, V> = NodeFinger<'a, Node6<V>, Finger6<'a, V>>;
 #[derive(Drop)]
 pub struct FindAll<'a, V> {
     finger: RootFinger<'a, V>,
+    pending: &'a [Edit<V>],
     keys: &'a [u32],
 }
 
 impl<'a, V> Model for FindAll<'a, V> {
     ghost use Rattle.std.specs.Prelude.{List, Option, map};
-    ghost use Rattle.radix_map.specs.Entries.{value_at};
+    ghost use Rattle.radix_map.specs.Entries.{value_at, edited_all, Rises};
     ghost use Rattle.radix_map.specs.Fingers.{root_found, root_sound};
 
     ghost Value = { List (Option V) };
 
-    ghost view = { λ a. map (λ k. value_at k (root_found a.finger)) a.keys.now };
+    ghost view = { λ a. map
+        (λ k. value_at k (edited_all (root_found a.finger) a.pending.now)) a.keys.now };
 
-    ghost invariant = { λ a. root_sound a.finger };
+    ghost invariant = { λ a. root_sound a.finger × Rises 0 4294967296 a.pending.now };
 }
 
 impl<'a, V: Drop> FindAll<'a, V> {
-    pub(crate) fn of(root: &'a Root<V>, keys: &'a [u32]) -> FindAll<'a, V>
-        ensures { result ≡ map (λ k. value_at k (root_entries root.now)) keys.now }
+    pub(crate) fn of(root: &'a Root<V>, pending: &'a [Edit<V>], keys: &'a [u32]) -> FindAll<'a, V>
+        requires { Rises 0 4294967296 pending.now }
+        ensures { result ≡ map
+            (λ k. value_at k (edited_all (root_entries root.now) pending.now)) keys.now }
     {
         FindAll {
             finger: Finger::begin(root),
+            pending,
             keys,
         }
     }
@@ -68,7 +74,7 @@ impl<'a, V: Drop> Iterator for FindAll<'a, V> {
         match self.keys.split_first() {
             Some((key, later)) => {
                 self.keys = later;
-                Some(find(&mut self.finger, *key))
+                Some(find(&mut self.finger, self.pending, *key))
             }
             None => None,
         }
@@ -161,11 +167,20 @@ impl<'a, V: Drop, L: Level<V>, F: Finger<'a, V, L>> Finger<'a, V, Node<L>>
 }
 
 // The value at the key.
-fn find<'a, V: Drop>(finger: &mut RootFinger<'a, V>, key: u32) -> Option<&'a V>
-    requires { root_sound finger.old }
-    ensures value { option_copied result ≡ value_at key (root_found finger.old) }
+fn find<'a, V: Drop>(
+    finger: &mut RootFinger<'a, V>,
+    pending: &'a [Edit<V>],
+    key: u32,
+) -> Option<&'a V>
+    requires sound { root_sound finger.old }
+    requires rise { Rises 0 4294967296 pending.now }
+    ensures value { option_copied result
+        ≡ value_at key (edited_all (root_found finger.old) pending.now) }
     ensures same { root_found finger.new ≡ root_found finger.old }
     ensures sound { root_sound finger.new }
 {
-    finger.find(key, ROOT_SHIFT)
+    match edit_at(pending, key) {
+        Some(value) => set_value(value),
+        None => finger.find(key, ROOT_SHIFT),
+    }
 }

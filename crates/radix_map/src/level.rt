@@ -1,7 +1,7 @@
 //! The levels of the tree: a leaf holds values, and a node holds nodes of the level below.
 
 ghost use Rattle.std.specs.Prelude.{◌≡◌, ℕ, ◌+◌, ◌*◌, ◌/◌, ◌%◌, ◌^◌, ◌<◌, ◌≤◌, List, [], length, take};
-ghost use Rattle.std.specs.Prelude.{IfOk, OnOk, OnErr, IsSome, IfNone, IfSome, Some, Option};
+ghost use Rattle.std.specs.Prelude.{IfOk, OnOk, OnErr, IsSome, IfNone, IfSome, Some, None, Option};
 ghost use Rattle.std.specs.Prelude.{option_copied, option_map, true, cond, not, ◌&&◌};
 ghost use Rattle.std.specs.Arc.{arc_value};
 ghost use Rattle.radix_map.specs.Places.{item_at};
@@ -21,13 +21,6 @@ pub(crate) type Edit<V> = (u32, Option<Arc<V>>);
 pub(crate) struct Tally {
     pub(crate) added: usize,
     pub(crate) removed: usize,
-}
-
-/// A copy of a node after some edits, and what they did.
-#[derive(Drop)]
-pub(crate) struct Edited<L> {
-    pub(crate) node: L,
-    pub(crate) tally: Tally,
 }
 
 /// A level of the tree as a finite map. A node places a key by the four bits from `shift` on, and
@@ -51,26 +44,22 @@ pub(crate) trait Level<V>: Drop {
         requires small { shift ≤ 28 }
         ensures { option_copied result ≡ value_at (key % (block bits)) (entries self.now) };
 
-    /// A copy after each edit in turn.
-    fn edited(&self, alloc: Global, edits: &[Edit<V>], shift: u32) -> Result<Edited<Self>, Memory>
-        requires level { shift ≡ bits }
-        requires small { shift ≤ 28 }
-        ensures ok { IfOk result
-            (λ p. entries p.node ≡ edited_within (block bits) (entries self.now) edits.now) }
-        ensures counted { IfOk result (λ p. Counts (length (entries self.now))
-            (length (entries p.node)) p.tally.added p.tally.removed) }
-        ensures few { IfOk result
-            (λ p. (p.tally.added ≤ length edits.now) × (p.tally.removed ≤ length edits.now)) }
-        ensures fit { OnOk result (KeysFit edits.now) };
+    /// A copy that has what lies below it in common, with room for up to `more` items.
+    fn copy(&self, alloc: Global, more: usize) -> Result<Self, Memory>
+        ensures { IfOk result (λ c. entries c ≡ entries self.now) };
 
-    /// Each edit in turn. What nobody else holds on the one way that all edits share is changed
-    /// where it is, and what others hold is copied. The entries stay after want of memory.
+    /// Each edit in turn. What nobody else holds is changed where it is, and what others hold is
+    /// copied. After want of memory some edits may be done: then all of them make of the entries
+    /// what they would have made before. One edit alone is done or leaves the entries.
     fn edit(&mut self, alloc: Global, edits: &[Edit<V>], shift: u32) -> Result<Tally, Memory>
         requires level { shift ≡ bits }
         requires small { shift ≤ 28 }
         ensures ok { OnOk result
             (entries self.new ≡ edited_within (block bits) (entries self.old) edits.now) }
-        ensures err { OnErr result (entries self.new ≡ entries self.old) }
+        ensures err { OnErr result (edited_within (block bits) (entries self.new) edits.now
+            ≡ edited_within (block bits) (entries self.old) edits.now) }
+        ensures alone { length edits.now ≤ 1
+            → OnErr result (entries self.new ≡ entries self.old) }
         ensures counted { IfOk result (λ t. Counts (length (entries self.old))
             (length (entries self.new)) t.added t.removed) }
         ensures few { IfOk result
@@ -132,37 +121,26 @@ impl<V: Drop> Level<V> for Leaf<V> {
         self.places.get(key & 15)
     }
 
-    fn edited(
-        &self,
-        alloc: Global,
-        edits: &[Edit<V>],
-        _shift: u32,
-    ) -> Result<Edited<Self>, Memory> {
-        let mut places = self.places.copy(alloc, edits.len())?;
+    fn copy(&self, alloc: Global, more: usize) -> Result<Self, Memory> {
+        let places = self.places.copy(alloc, more)?;
+        Ok(Leaf { places })
+    }
+
+    fn edit(&mut self, _alloc: Global, edits: &[Edit<V>], _shift: u32) -> Result<Tally, Memory> {
         let mut tally = Tally {
             added: 0,
             removed: 0,
         };
         for edit in edits {
-            let one = edit_value(&mut places, edit.0, &edit.1)?;
-            tally.added += one.added;
-            tally.removed += one.removed;
-        }
-        Ok(Edited {
-            node: Leaf { places },
-            tally,
-        })
-    }
-
-    fn edit(&mut self, alloc: Global, edits: &[Edit<V>], shift: u32) -> Result<Tally, Memory> {
-        match edits {
-            [edit] => edit_value(&mut self.places, edit.0, &edit.1),
-            _ => {
-                let copy = self.edited(alloc, edits, shift)?;
-                *self = copy.node;
-                Ok(copy.tally)
+            match edit_value(&mut self.places, edit.0, &edit.1) {
+                Ok(one) => {
+                    tally.added += one.added;
+                    tally.removed += one.removed;
+                }
+                Err(refused) => return Err(refused),
             }
         }
+        Ok(tally)
     }
 
     ghost rises = { λ x. leaf_rises x.places };
@@ -193,8 +171,12 @@ impl<V: Drop, L: Level<V>> Level<V> for Node<L> {
         }
     }
 
-    fn edited(&self, alloc: Global, edits: &[Edit<V>], shift: u32) -> Result<Edited<Self>, Memory> {
-        let mut places = self.places.copy(alloc, edits.len())?;
+    fn copy(&self, alloc: Global, more: usize) -> Result<Self, Memory> {
+        let places = self.places.copy(alloc, more)?;
+        Ok(Node { places })
+    }
+
+    fn edit(&mut self, alloc: Global, edits: &[Edit<V>], shift: u32) -> Result<Tally, Memory> {
         let mut tally = Tally {
             added: 0,
             removed: 0,
@@ -202,31 +184,15 @@ impl<V: Drop, L: Level<V>> Level<V> for Node<L> {
         let mut rest = edits;
         loop {
             match next_run(rest, shift) {
-                Some(run) => {
-                    let one = edit_run(&mut places, alloc, run.at, run.edits, shift)?;
-                    tally.added += one.added;
-                    tally.removed += one.removed;
-                    rest = run.rest;
-                }
-                None => {
-                    return Ok(Edited {
-                        node: Node { places },
-                        tally,
-                    });
-                }
-            }
-        }
-    }
-
-    fn edit(&mut self, alloc: Global, edits: &[Edit<V>], shift: u32) -> Result<Tally, Memory> {
-        match next_run(edits, shift) {
-            Some(run) if run.rest.is_empty() && self.places.get(run.at).is_some() => {
-                edit_run_here(&mut self.places, alloc, run.at, run.edits, shift)
-            }
-            _ => {
-                let copy = self.edited(alloc, edits, shift)?;
-                *self = copy.node;
-                Ok(copy.tally)
+                Some(run) => match edit_run(&mut self.places, alloc, run.at, run.edits, shift) {
+                    Ok(one) => {
+                        tally.added += one.added;
+                        tally.removed += one.removed;
+                        rest = run.rest;
+                    }
+                    Err(refused) => return Err(refused),
+                },
+                None => return Ok(tally),
             }
         }
     }
@@ -317,7 +283,7 @@ fn one_if(is: bool, other: bool) -> usize
     usize::from(is && !other)
 }
 
-fn share_value<V: Drop>(value: &Option<Arc<V>>) -> Result<Option<Arc<V>>, Memory>
+pub(crate) fn share_value<V: Drop>(value: &Option<Arc<V>>) -> Result<Option<Arc<V>>, Memory>
     ensures { IfOk result (λ o. option_map arc_value o ≡ option_map arc_value value.now) }
 {
     match value {
@@ -326,7 +292,7 @@ fn share_value<V: Drop>(value: &Option<Arc<V>>) -> Result<Option<Arc<V>>, Memory
     }
 }
 
-// Edits the child at one place, of which a copy takes its place, or none where it has become empty.
+// Edits the child at one place, or makes one where there is none.
 fn edit_run<V, L: Level<V>>(
     places: &mut Places<L>,
     alloc: Global,
@@ -340,15 +306,21 @@ fn edit_run<V, L: Level<V>>(
     requires run { InPlace (2 ^ shift) at run.now }
     ensures ok { OnOk result (node_map L.entries L.bits places.new ≡ edited_within
         (block (L.bits + 4)) (node_map L.entries L.bits places.old) run.now) }
+    ensures err { OnErr result
+        (edited_within (block (L.bits + 4)) (node_map L.entries L.bits places.new) run.now
+        ≡ edited_within (block (L.bits + 4)) (node_map L.entries L.bits places.old) run.now) }
+    ensures alone { length run.now ≤ 1 → OnErr result (node_map L.entries L.bits places.new
+        ≡ node_map L.entries L.bits places.old) }
     ensures counted { IfOk result (λ t. Counts (length (node_map L.entries L.bits places.old))
         (length (node_map L.entries L.bits places.new)) t.added t.removed) }
     ensures few { IfOk result
         (λ t. (t.added ≤ length run.now) × (t.removed ≤ length run.now)) }
 {
-    let child = edited_child(places.get(at), alloc, run, shift - 4)?;
-    let item = shared(alloc, child.node)?;
-    places.put(at, item)?;
-    Ok(child.tally)
+    if places.get(at).is_some() {
+        edit_run_here(places, alloc, at, run, shift)
+    } else {
+        edit_run_anew(places, alloc, at, run, shift)
+    }
 }
 
 // Edits the child at one place where it is, and drops it where it has become empty.
@@ -366,7 +338,10 @@ fn edit_run_here<V, L: Level<V>>(
     requires run { InPlace (2 ^ shift) at run.now }
     ensures ok { OnOk result (node_map L.entries L.bits places.new ≡ edited_within
         (block (L.bits + 4)) (node_map L.entries L.bits places.old) run.now) }
-    ensures err { OnErr result (node_map L.entries L.bits places.new
+    ensures err { OnErr result
+        (edited_within (block (L.bits + 4)) (node_map L.entries L.bits places.new) run.now
+        ≡ edited_within (block (L.bits + 4)) (node_map L.entries L.bits places.old) run.now) }
+    ensures alone { length run.now ≤ 1 → OnErr result (node_map L.entries L.bits places.new
         ≡ node_map L.entries L.bits places.old) }
     ensures counted { IfOk result (λ t. Counts (length (node_map L.entries L.bits places.old))
         (length (node_map L.entries L.bits places.new)) t.added t.removed) }
@@ -380,6 +355,36 @@ fn edit_run_here<V, L: Level<V>>(
         }
         Err(refused) => Err(refused),
     }
+}
+
+// Makes a child of the edits at a free place, unless they leave none.
+fn edit_run_anew<V, L: Level<V>>(
+    places: &mut Places<L>,
+    alloc: Global,
+    at: u32,
+    run: &[Edit<V>],
+    shift: u32,
+) -> Result<Tally, Memory>
+    requires level { shift ≡ L.bits + 4 }
+    requires small { shift ≤ 28 }
+    requires at { at < 16 }
+    requires free { item_at places.old at ≡ None }
+    requires wide { length places.old ≡ 16 }
+    requires run { InPlace (2 ^ shift) at run.now }
+    ensures ok { OnOk result (node_map L.entries L.bits places.new ≡ edited_within
+        (block (L.bits + 4)) (node_map L.entries L.bits places.old) run.now) }
+    ensures err { OnErr result (node_map L.entries L.bits places.new
+        ≡ node_map L.entries L.bits places.old) }
+    ensures counted { IfOk result (λ t. Counts (length (node_map L.entries L.bits places.old))
+        (length (node_map L.entries L.bits places.new)) t.added t.removed) }
+    ensures few { IfOk result
+        (λ t. (t.added ≤ length run.now) × (t.removed ≤ length run.now)) }
+{
+    let mut child = L::empty(alloc).copy(alloc, run.len())?;
+    let tally = child.edit(alloc, run, shift - 4)?;
+    let item = shared(alloc, child)?;
+    places.put(at, item)?;
+    Ok(tally)
 }
 
 // Frees place `at` where its child is empty.
@@ -413,7 +418,11 @@ pub(crate) fn edit_shared<V, L: Level<V>>(
     requires small { shift ≤ 28 }
     ensures ok { OnOk result (L.entries (arc_value node.new)
         ≡ edited_within (block L.bits) (L.entries (arc_value node.old)) edits.now) }
-    ensures err { OnErr result (L.entries (arc_value node.new) ≡ L.entries (arc_value node.old)) }
+    ensures err { OnErr result
+        (edited_within (block L.bits) (L.entries (arc_value node.new)) edits.now
+        ≡ edited_within (block L.bits) (L.entries (arc_value node.old)) edits.now) }
+    ensures alone { length edits.now ≤ 1
+        → OnErr result (L.entries (arc_value node.new) ≡ L.entries (arc_value node.old)) }
     ensures counted { IfOk result (λ t. Counts (length (L.entries (arc_value node.old)))
         (length (L.entries (arc_value node.new))) t.added t.removed) }
     ensures few { IfOk result
@@ -422,33 +431,11 @@ pub(crate) fn edit_shared<V, L: Level<V>>(
     match Arc::get_mut(node) {
         Some(own) => own.edit(alloc, edits, shift),
         None => {
-            let copy = node.edited(alloc, edits, shift)?;
-            *node = Arc::new(alloc, copy.node)?;
-            Ok(copy.tally)
+            let mut copy = node.copy(alloc, edits.len())?;
+            let tally = copy.edit(alloc, edits, shift)?;
+            *node = Arc::new(alloc, copy)?;
+            Ok(tally)
         }
-    }
-}
-
-// A copy of a child, or a new one, after each edit in turn.
-fn edited_child<V, L: Level<V>>(
-    child: Option<&L>,
-    alloc: Global,
-    edits: &[Edit<V>],
-    shift: u32,
-) -> Result<Edited<L>, Memory>
-    requires level { shift ≡ L.bits }
-    requires small { shift ≤ 28 }
-    ensures ok { IfOk result (λ p. L.entries p.node ≡ edited_within
-        (block L.bits) (part L.entries (option_copied child.entry)) edits.now) }
-    ensures counted { IfOk result (λ p. Counts
-        (length (part L.entries (option_copied child.entry))) (length (L.entries p.node))
-        p.tally.added p.tally.removed) }
-    ensures few { IfOk result
-        (λ p. (p.tally.added ≤ length edits.now) × (p.tally.removed ≤ length edits.now)) }
-{
-    match child {
-        Some(child) => child.edited(alloc, edits, shift),
-        None => L::empty(alloc).edited(alloc, edits, shift),
     }
 }
 

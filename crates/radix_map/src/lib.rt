@@ -15,6 +15,10 @@
 //!              |            +------ shared ---|------------+  +--- new leaf
 //!              +------------------- shared ---+
 //! ```
+//!
+//! A map that is changed in place changes the nodes that nobody else holds where they are. It notes
+//! the edits first, and noted edits count before what the tree has: so it has them all, also where
+//! want of memory stops the walk that carries them into the tree.
 
 #![tactic(auto)]
 
@@ -22,6 +26,7 @@ mod entries;
 mod find;
 mod level;
 mod map;
+mod pending;
 mod places;
 #[cfg(test)]
 mod tests;

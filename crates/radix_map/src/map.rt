@@ -1,12 +1,17 @@
-//! The map: the root of its tree and the number of its entries.
+//! The map: the root of its tree, the edits that it has noted, and the number of its entries.
 
-ghost use Rattle.std.specs.Prelude.{◌≡◌, [], IfOk, OnOk, OnErr, option_copied, length, map};
+ghost use Rattle.std.specs.Prelude.{◌≡◌, ◌≤◌, [], IfOk, OnOk, OnErr, option_copied, length, map};
 ghost use Rattle.std.specs.Arc.{arc_value};
-ghost use Rattle.radix_map.specs.Entries.{value_at, with_key, without_key, edited_all};
+ghost use Rattle.radix_map.specs.Entries.{value_at, with_key, without_key, edited_all, Rises};
+ghost use Rattle.radix_map.specs.Map.{root_entries};
+
+#[cfg(test)]
+pub(crate) mod stopped;
 
 use crate::entries::Entries;
 use crate::find::FindAll;
-use crate::level::{Level, ROOT_SHIFT, Root};
+use crate::level::{Edit, Level, ROOT_SHIFT, Root};
+use crate::pending::{edit_at, note, rise, set_value};
 use grid_core::Memory;
 use std::alloc::Global;
 use std::marker::Model;
@@ -17,19 +22,24 @@ use std::sync::Arc;
 #[derive(Drop)]
 pub struct Map<V> {
     alloc: Global,
+    /// How many entries it has, with the edits that are noted.
     len: usize,
     root: Root<V>,
+    /// Edits by strictly rising key, of which the tree may lack some. They count before what it has.
+    /// There are none but where want of memory stopped `edit_all` on its way through the tree.
+    pending: Vec<Edit<V>>,
 }
 
 impl<V> Model for Map<V> {
-    ghost use Rattle.std.specs.Prelude.{◌≡◌, ℕ, List, length};
-    ghost use Rattle.radix_map.specs.Map.{root_entries};
+    ghost use Rattle.std.specs.Prelude.{ℕ, List};
+    ghost use Rattle.radix_map.specs.Entries.{edited_all};
+    ghost use Rattle.radix_map.specs.Map.{root_entries, IsKept};
 
     ghost Value = { List (ℕ × V) };
 
-    ghost view = { λ m. root_entries m.root };
+    ghost view = { λ m. edited_all (root_entries m.root) m.pending.items };
 
-    ghost invariant = { λ m. m.len ≡ length (root_entries m.root) };
+    ghost invariant = { λ m. IsKept m.len m.root m.pending.items };
 }
 
 impl<V: Drop> Map<V> {
@@ -41,6 +51,7 @@ impl<V: Drop> Map<V> {
             alloc,
             len: 0,
             root: Level::empty(alloc),
+            pending: Vec::new(alloc),
         }
     }
 
@@ -48,7 +59,10 @@ impl<V: Drop> Map<V> {
     pub fn get(&self, key: u32) -> Option<&V>
         ensures { option_copied result ≡ value_at key self.now }
     {
-        self.root.get(key, ROOT_SHIFT)
+        match edit_at(&self.pending, key) {
+            Some(value) => set_value(value),
+            None => self.root.get(key, ROOT_SHIFT),
+        }
     }
 
     /// How many entries it has.
@@ -62,7 +76,7 @@ impl<V: Drop> Map<V> {
     pub fn entries(&self) -> Entries<'_, V>
         ensures { result ≡ self.now }
     {
-        Entries::of(&self.root)
+        Entries::of(&self.root, &self.pending)
     }
 
     /// The values at the keys, in their order: `None` where the map has none. It is cheapest where
@@ -70,7 +84,7 @@ impl<V: Drop> Map<V> {
     pub fn find_all<'a>(&'a self, keys: &'a [u32]) -> FindAll<'a, V>
         ensures { result ≡ map (λ k. value_at k self.now) keys.now }
     {
-        FindAll::of(&self.root, keys)
+        FindAll::of(&self.root, &self.pending, keys)
     }
 
     /// The map with the key set to the value.
@@ -92,23 +106,85 @@ impl<V: Drop> Map<V> {
     pub fn with_all(&self, edits: &[(u32, Option<Arc<V>>)]) -> Result<Map<V>, Memory>
         ensures { IfOk result (λ m. m ≡ edited_all self.now edits.now) }
     {
-        let copy = self.root.edited(self.alloc, edits, ROOT_SHIFT)?;
+        let mut root = self.root.copy(self.alloc, edits.len())?;
+        // What is noted comes first, and is part of `len` already.
+        root.edit(self.alloc, &self.pending, ROOT_SHIFT)?;
+        let tally = root.edit(self.alloc, edits, ROOT_SHIFT)?;
         Ok(Map {
             alloc: self.alloc,
-            len: self.len + copy.tally.added - copy.tally.removed,
-            root: copy.node,
+            len: self.len + tally.added - tally.removed,
+            root,
+            pending: Vec::new(self.alloc),
         })
     }
 
-    /// Each edit in turn, in place of this map: `Some` sets its key, and `None` removes it. On the
-    /// way that all edits share, a node that nobody else holds is changed where it is. Maps that
+    /// Each edit in turn, in place of this map: `Some` sets its key, and `None` removes it. Where
+    /// the keys rise strictly, each node that nobody else holds is changed where it is. Maps that
     /// share nodes with this one stay as they are, and after want of memory this one does too.
     pub fn edit_all(&mut self, edits: &[(u32, Option<Arc<V>>)]) -> Result<(), Memory>
         ensures ok { OnOk result (self.new ≡ edited_all self.old edits.now) }
         ensures err { OnErr result (self.new ≡ self.old) }
     {
-        let tally = self.root.edit(self.alloc, edits, ROOT_SHIFT)?;
+        self.settle();
+        match edits {
+            [_] => self.edit_alone(edits),
+            _ => self.edit_noted(edits),
+        }
+    }
+
+    // Carries the edits that are noted into the tree, as far as memory reaches.
+    fn settle(&mut self)
+        ensures { self.new ≡ self.old }
+    {
+        if self.pending.is_empty() {
+            return;
+        }
+        match self.root.edit(self.alloc, &self.pending, ROOT_SHIFT) {
+            Ok(_) => self.pending.clear(),
+            Err(_) => {}
+        }
+    }
+
+    // One edit needs no note: it is carried into the tree, or leaves it.
+    fn edit_alone(&mut self, edit: &[Edit<V>]) -> Result<(), Memory>
+        requires { length edit.now ≤ 1 }
+        ensures ok { OnOk result (self.new ≡ edited_all self.old edit.now) }
+        ensures err { OnErr result (self.new ≡ self.old) }
+    {
+        if !self.pending.is_empty() {
+            *self = self.with_all(edit)?;
+            return Ok(());
+        }
+        let tally = self.root.edit(self.alloc, edit, ROOT_SHIFT)?;
         self.len = self.len + tally.added - tally.removed;
         Ok(())
     }
+
+    // Once the edits are noted, the map has them, however far they come in the tree.
+    fn edit_noted(&mut self, edits: &[Edit<V>]) -> Result<(), Memory>
+        ensures ok { OnOk result (self.new ≡ edited_all self.old edits.now) }
+        ensures err { OnErr result (self.new ≡ self.old) }
+    {
+        if !self.pending.is_empty() || !rise(edits) {
+            *self = self.with_all(edits)?;
+            return Ok(());
+        }
+        note(&mut self.pending, edits)?;
+        match self.root.edit(self.alloc, edits, ROOT_SHIFT) {
+            Ok(tally) => {
+                self.pending.clear();
+                self.len = self.len + tally.added - tally.removed;
+            }
+            Err(_) => self.len = count(&self.root, &self.pending),
+        }
+        Ok(())
+    }
+}
+
+// How many entries a tree has after edits.
+fn count<V: Drop>(root: &Root<V>, edits: &[Edit<V>]) -> usize
+    requires { Rises 0 4294967296 edits.now }
+    ensures { result ≡ length (edited_all (root_entries root.now) edits.now) }
+{
+    Entries::of(root, edits).count()
 }

@@ -131,7 +131,10 @@ impl<T: Drop> Places<T> {
         requires run { InPlace (2 ^ shift) at run.now }
         ensures ok { OnOk result (node_map T.entries T.bits self.new ≡ edited_within
             (block (T.bits + 4)) (node_map T.entries T.bits self.old) run.now) }
-        ensures err { OnErr result (node_map T.entries T.bits self.new
+        ensures err { OnErr result
+            (edited_within (block (T.bits + 4)) (node_map T.entries T.bits self.new) run.now
+            ≡ edited_within (block (T.bits + 4)) (node_map T.entries T.bits self.old) run.now) }
+        ensures alone { length run.now ≤ 1 → OnErr result (node_map T.entries T.bits self.new
             ≡ node_map T.entries T.bits self.old) }
         ensures counted { IfOk result (λ t. Counts (length (node_map T.entries T.bits self.old))
             (length (node_map T.entries T.bits self.new)) t.added t.removed) }

@@ -1,6 +1,7 @@
-//! Worked rows, that calls succeed with ample memory, and a comparison with std's map.
+//! Worked rows, that calls succeed with ample memory, and comparisons with std's map.
 
 use crate::Map;
+use crate::map::stopped::stopped;
 use std::alloc::{AllocError, Global};
 use std::collections::BTreeMap;
 use std::sync::Arc;
@@ -192,6 +193,135 @@ fn random_edits_agree_with_a_sorted_map(rt: HostRuntime) -> Result<(), Fail> {
     );
     for (map, entries) in kept.iter().zip(wanted.iter()) {
         assert_eq!(rt; listed(alloc, map)?.as_slice(), entries.as_slice());
+    }
+    Ok(())
+}
+
+type Edits = Vec<(u32, Option<Arc<u64>>)>;
+
+// Edits of 100 keys, `step` apart from 0 on, and of the last key. Each third key is removed, from
+// the key with number `first` on.
+fn rising_edits(alloc: Global, step: u32, first: u32) -> Result<Edits, Fail> {
+    let mut edits = Vec::new(alloc);
+    for n in 0..100u32 {
+        let value = if n % 3 == first {
+            None
+        } else {
+            Some(Arc::new(alloc, u64::from(n))?)
+        };
+        edits.push((n.wrapping_mul(step), value))?;
+    }
+    edits.push((LAST, Some(Arc::new(alloc, 7)?)))?;
+    Ok(edits)
+}
+
+impl Pair {
+    // Each second key of the edits, and some beside them.
+    fn of_even_keys(alloc: Global, step: u32) -> Result<Pair, Fail> {
+        let mut pair = Pair {
+            map: Map::open(alloc),
+            model: BTreeMap::new(alloc),
+        };
+        for n in 0..60u32 {
+            let key = n.wrapping_mul(step).wrapping_mul(2);
+            let _before = pair.edit(alloc, key, Some(1_000))?;
+        }
+        Ok(pair)
+    }
+
+    fn edit_all(&mut self, edits: &[(u32, Option<Arc<u64>>)]) -> Result<(), Fail> {
+        self.map.edit_all(edits)?;
+        self.edit_model(edits)
+    }
+
+    fn edit_model(&mut self, edits: &[(u32, Option<Arc<u64>>)]) -> Result<(), Fail> {
+        for edit in edits {
+            match &edit.1 {
+                Some(value) => {
+                    self.model.insert(edit.0, **value)?;
+                }
+                None => {
+                    self.model.remove(&edit.0);
+                }
+            }
+        }
+        Ok(())
+    }
+
+    // Edits that are noted in the map, of which its tree has none.
+    fn note(mut self, edits: &[(u32, Option<Arc<u64>>)]) -> Result<Pair, Fail> {
+        self.edit_model(edits)?;
+        Ok(Pair {
+            map: stopped(self.map, edits)?,
+            model: self.model,
+        })
+    }
+
+    // Whether the map has the entries of std's.
+    fn agrees(&self, alloc: Global) -> Result<bool, Fail> {
+        let wanted = self.wanted(alloc)?;
+        Ok(listed(alloc, &self.map)? == wanted && self.map.len() == wanted.len())
+    }
+
+    // Whether the map has the value of std's at each of the keys, one by one and all at once.
+    fn agrees_at(&self, alloc: Global, keys: &[u32]) -> Result<bool, Fail> {
+        let values = found(alloc, &self.map, keys)?;
+        for (key, value) in keys.iter().zip(values.iter()) {
+            let wanted = self.model.get(key);
+            if self.map.get(*key) != wanted || value.as_ref() != wanted {
+                return Ok(false);
+            }
+        }
+        Ok(true)
+    }
+}
+
+const STEPS: [(&str, u32); 3] = [
+    ("neighbours", 1),
+    ("one in a leaf", 16),
+    ("far apart", 40_000_003),
+];
+
+// At first all nodes are shared with a map that is kept, and then none is.
+#[test]
+fn many_rising_edits_agree_with_a_sorted_map(rt: HostRuntime) -> Result<(), Fail> {
+    let alloc = rt.alloc();
+    for (name, step) in STEPS {
+        let mut pair = Pair::of_even_keys(alloc, step)?;
+        let before = pair.wanted(alloc)?;
+        let kept = pair.map.with_all(&[])?;
+        for first in 0..3u32 {
+            pair.edit_all(&rising_edits(alloc, step, first)?)?;
+            assert!(rt; pair.agrees(alloc)?, "{name}");
+        }
+        assert!(rt; listed(alloc, &kept)? == before, "{name}");
+    }
+    Ok(())
+}
+
+#[test]
+fn noted_edits_count_before_the_tree(rt: HostRuntime) -> Result<(), Fail> {
+    let alloc = rt.alloc();
+    for (name, step) in STEPS {
+        let edits = rising_edits(alloc, step, 1)?;
+        let pair = Pair::of_even_keys(alloc, step)?.note(&edits)?;
+        assert!(rt; pair.agrees(alloc)?, "{name}");
+        assert!(rt; pair.agrees_at(alloc, &[0, step, 5, LAST])?, "{name}");
+    }
+    Ok(())
+}
+
+#[test]
+fn edits_follow_noted_ones(rt: HostRuntime) -> Result<(), Fail> {
+    let alloc = rt.alloc();
+    for (name, step) in STEPS {
+        let edits = rising_edits(alloc, step, 1)?;
+        let mut pair = Pair::of_even_keys(alloc, step)?.note(&edits)?;
+        let next = rising_edits(alloc, step, 2)?;
+        let copy = pair.map.with_all(&next)?;
+        pair.edit_all(&next)?;
+        assert!(rt; pair.agrees(alloc)?, "{name}");
+        assert!(rt; listed(alloc, &copy)? == pair.wanted(alloc)?, "{name}");
     }
     Ok(())
 }

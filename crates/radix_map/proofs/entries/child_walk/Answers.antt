@@ -1,4 +1,4 @@
-use Rattle.std.proofs.Common.{◌≡◌, ◌+◌, ◌*◌, ◌^◌, ◌≤◌, ap, sym, ◌∙◌, subst, refl}
+use Rattle.std.proofs.Common.{◌+◌, ◌*◌, ◌^◌, ◌≤◌, ap, sym, ◌∙◌, subst, refl}
 use Rattle.radix_map.proofs.Walks.{child_fits}
 use Rattle.radix_map.proofs.entries.child_walk.Goals as goal
 

@@ -1,9 +1,8 @@
-use Rattle.std.proofs.Common.{◌≡◌, ◌%◌, ◌<◌, bit_and, length, ap, sym, ◌∙◌, subst, set, option_map, option_copied, is_some, cond, ◌&&◌, not, arith}
-use Rattle.std.proofs.Math.Nat.{mod-lt}
+use Rattle.std.proofs.Common.{◌≡◌, ◌%◌, ◌<◌, bit_and, length, ap, sym, ◌∙◌, subst, set, option_map, is_some, cond, ◌&&◌, not, arith}
 use Rattle.std.proofs.lemmas.Nat.{and_mask}
 use Rattle.std.specs.Arc.{arc_value}
 use Rattle.radix_map.specs.Places.{item_at}
-use Rattle.radix_map.specs.Entries.{entries_of, single, edited, Counts}
+use Rattle.radix_map.specs.Entries.{entries_of, single, Counts}
 use Rattle.radix_map.proofs.Trees.{leaf_edited, leaf_tally, mapped_variant, copied_variant}
 use Rattle.radix_map.proofs.level.edit_value.Goals as goal
 

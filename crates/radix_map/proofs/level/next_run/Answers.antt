@@ -1,6 +1,6 @@
-use Rattle.std.proofs.Common.{◌≡◌, suc, ◌+◌, ◌^◌, ◌∷◌, ◌++◌, take, drop, ap, sym, ◌∙◌, subst, refl, arith, add-one}
+use Rattle.std.proofs.Common.{◌≡◌, suc, ◌+◌, ◌^◌, ◌∷◌, ◌++◌, take, drop, ap, sym, ◌∙◌, subst, arith, add-one}
 use Rattle.std.proofs.lemmas.List.{take-append-drop}
-use Rattle.radix_map.specs.Entries.{InPlace, IsFirstRun, KeysFit}
+use Rattle.radix_map.specs.Entries.{InPlace, KeysFit}
 use Rattle.radix_map.proofs.level.next_run.Goals as goal
 
 pub returns : goal.returns

@@ -1,4 +1,4 @@
-use Rattle.std.proofs.Common.{◌≡◌, ◌+◌, ◌^◌, ◌/◌, ◌%◌, ◌<◌, suc, take, ap, sym, ◌∙◌, subst, add-one}
+use Rattle.std.proofs.Common.{◌^◌, ◌/◌, ◌%◌, ◌<◌, take, ap, sym, ◌∙◌, subst, add-one}
 use Rattle.radix_map.specs.Entries.{InPlace, KeysFit}
 use Rattle.radix_map.proofs.Trees.{in_place_more, fit_more}
 use Rattle.radix_map.proofs.level.run_length.Goals as goal

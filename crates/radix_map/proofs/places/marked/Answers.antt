@@ -1,4 +1,4 @@
-use Rattle.std.proofs.Common.{◌%◌, ◌*◌, ◌-◌, ◌^◌, sym, subst, arith, bit_or, bit_and}
+use Rattle.std.proofs.Common.{◌%◌, ◌*◌, ◌-◌, ◌^◌, sym, subst, bit_or, bit_and}
 use Rattle.std.specs.Int.{bit_at}
 use Rattle.radix_map.specs.Places.{Replaces, digit_of}
 use Rattle.radix_map.proofs.Digits.{Replaces-set, Replaces-cleared}

@@ -1,4 +1,4 @@
-use Rattle.std.proofs.Common.{◌≡◌, ◌+◌, ◌/◌, ◌^◌, ap, sym, ◌∙◌, subst, arith}
+use Rattle.std.proofs.Common.{◌+◌, ◌/◌, ◌^◌, ap, sym, ◌∙◌, subst}
 use Rattle.std.specs.Int.{trailing_zeros}
 use mir.Syntax.{w32}
 use Rattle.radix_map.specs.Places.{IsNextDigit}

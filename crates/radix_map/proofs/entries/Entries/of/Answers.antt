@@ -1,7 +1,7 @@
-use Rattle.std.proofs.Common.{◌∙◌}
-use Rattle.radix_map.specs.Map.{root_entries}
-use Rattle.radix_map.proofs.Walks.{raised_zero}
+use Rattle.std.proofs.Common.{sym, subst}
+use Rattle.radix_map.specs.Entries.{Rises}
+use Rattle.radix_map.proofs.Roots.{root_rises}
 use Rattle.radix_map.proofs.entries.Entries.of.Goals as goal
 
-pub returns : goal.returns
-returns g c = c.begin.ensures.left ∙ raised_zero (root_entries c.args.root.now)
+pub invariant_of-result : goal.invariant_of-result
+invariant_of-result g c = (subst (Rises 0 4294967296) (sym c.of.ensures) (root_rises c.args.root.now), c.requires)

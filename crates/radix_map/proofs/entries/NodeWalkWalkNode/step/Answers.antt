@@ -1,5 +1,5 @@
-use Rattle.std.proofs.Common.{◌≡◌, ◌+◌, ◌*◌, ◌^◌, ◌++◌, ap, sym, ◌∙◌, arith}
-use Rattle.radix_map.specs.Entries.{entries_behind, part, raised}
+use Rattle.std.proofs.Common.{◌+◌, ◌*◌, ◌^◌, ◌++◌, ap, sym, ◌∙◌, arith}
+use Rattle.radix_map.specs.Entries.{entries_behind, raised}
 use Rattle.radix_map.proofs.Walks.{behind_none, behind_next}
 use Rattle.radix_map.proofs.entries.NodeWalkWalkNode.step.Goals as goal
 

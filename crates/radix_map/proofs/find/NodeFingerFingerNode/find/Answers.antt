@@ -1,6 +1,6 @@
 use Rattle.std.proofs.Common.{◌≡◌, ◌*◌, ◌^◌, ◌%◌, ◌/◌, ap, sym, ◌∙◌, subst, Some, None, option_copied, refl}
 use Rattle.radix_map.specs.Places.{item_at}
-use Rattle.radix_map.specs.Entries.{value_at, part}
+use Rattle.radix_map.specs.Entries.{value_at}
 use Rattle.radix_map.specs.Inner.{IsFingerOf}
 use Rattle.radix_map.proofs.Trees.{node_value}
 use Rattle.radix_map.proofs.find.NodeFingerFingerNode.find.Goals as goal

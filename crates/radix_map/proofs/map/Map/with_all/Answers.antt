@@ -1,15 +1,35 @@
-use Rattle.std.proofs.Common.{◌≡◌, ◌+◌, ◌-◌, ap, sym, ◌∙◌, arith, Fits}
+use Rattle.std.proofs.Common.{length, ap, ◌∙◌, refl, arith}
 use Rattle.radix_map.specs.Map.{root_entries}
 use Rattle.radix_map.specs.Entries.{edited_all}
-use Rattle.radix_map.proofs.Roots.{root_size, within_all}
+use Rattle.radix_map.proofs.Roots.{root_size, root_edited, no_edits, none_rise}
 use Rattle.radix_map.proofs.map.Map.with_all.Goals as goal
 
 pub overflow_add-result : goal.overflow_add-result
 overflow_add-result g c =
-    let size = root_size c.self.inside.root in
-    let few = c.in_ok-copy.ensures.few in
-    omega (arith, c.self.invariant, few)
+    let m = c.self.inside in
+    let before = ap length (root_edited c.in_ok-root.root c.edit.new.self m.root c.deref.result.now m.pending.items c.deref.ensures.value c.in_ok-edit.ensures.fit c.in_ok-root.ensures c.in_ok-edit.ensures.ok) in
+    let size = root_size c.edit.new.self in
+    omega (arith, c.self.invariant.counted, c.in_ok-tally.ensures.few)
+
+pub overflow_sub-result : goal.overflow_sub-result
+overflow_sub-result g c =
+    let m = c.self.inside in
+    let before = ap length (root_edited c.in_ok-root.root c.edit.new.self m.root c.deref.result.now m.pending.items c.deref.ensures.value c.in_ok-edit.ensures.fit c.in_ok-root.ensures c.in_ok-edit.ensures.ok) in
+    omega (arith, c.self.invariant.counted, c.in_ok-tally.ensures.counted)
+
+pub invariant_of-result : goal.invariant_of-result
+invariant_of-result g c =
+    let m = c.self.inside in
+    let before = ap length (root_edited c.in_ok-root.root c.edit.new.self m.root c.deref.result.now m.pending.items c.deref.ensures.value c.in_ok-edit.ensures.fit c.in_ok-root.ensures c.in_ok-edit.ensures.ok) in
+    let after = ap length (no_edits (root_entries c.edit-2.new.self) c.new.result.items c.new.ensures.items) in
+    record {
+      counted = omega (arith, c.self.invariant.counted, c.in_ok-tally.ensures.counted);
+      rise = none_rise c.new.result.items c.new.ensures.items;
+    }
 
 pub returns : goal.returns
 returns g c =
-    c.in_ok-copy.ensures.ok ∙ within_all (root_entries c.self.inside.root) c.args.edits.now c.in_ok-copy.ensures.fit ∙ ap (λ es. edited_all es c.args.edits.now) c.self.view_is
+    let m = c.self.inside in
+    let edits = c.args.edits.now in
+    let before = root_edited c.in_ok-root.root c.edit.new.self m.root c.deref.result.now m.pending.items c.deref.ensures.value c.in_ok-edit.ensures.fit c.in_ok-root.ensures c.in_ok-edit.ensures.ok in
+    no_edits (root_entries c.edit-2.new.self) c.new.result.items c.new.ensures.items ∙ root_edited c.edit.new.self c.edit-2.new.self c.edit.new.self edits edits refl c.in_ok-tally.ensures.fit refl c.in_ok-tally.ensures.ok ∙ ap (λ es. edited_all es edits) (before ∙ c.self.view_is)

@@ -1,4 +1,4 @@
-use Rattle.std.proofs.Common.{◌≡◌, ap, sym, ◌∙◌, arith, map}
+use Rattle.std.proofs.Common.{◌≡◌, ap, sym, ◌∙◌, map}
 use Rattle.std.specs.Arc.{arc_value}
 use Rattle.radix_map.specs.Places.{places_of}
 use Rattle.radix_map.proofs.Digits.{no_places}

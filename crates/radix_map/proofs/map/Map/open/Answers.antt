@@ -1,0 +1,13 @@
+use Rattle.std.proofs.Common.{length, ap, sym, ◌∙◌}
+use Rattle.radix_map.specs.Map.{root_entries}
+use Rattle.radix_map.proofs.Roots.{no_edits, none_rise}
+use Rattle.radix_map.proofs.map.Map.open.Goals as goal
+
+pub invariant_of-result : goal.invariant_of-result
+invariant_of-result g c = record {
+  counted = ap length (sym (no_edits (root_entries c.empty.result) c.new.result.items c.new.ensures.items ∙ c.empty.ensures));
+  rise = none_rise c.new.result.items c.new.ensures.items;
+}
+
+pub returns : goal.returns
+returns g c = no_edits (root_entries c.empty.result) c.new.result.items c.new.ensures.items ∙ c.empty.ensures

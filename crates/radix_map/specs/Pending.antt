@@ -1,0 +1,22 @@
+-- Edits that a map has noted, by strictly rising key: they count before what its tree has.
+use Rattle.std.specs.Prelude.{ℕ, ◌<◌, List, [], ◌∷◌, Option, Some, None, option_map, ◌≡◌, ◌⊎◌}
+use Rattle.std.specs.Arc.{arc_value}
+use Rattle.std.specs.declared.sync.Arc.{Arc}
+
+-- an edit by its key and value, whatever pointer leads to the value
+abbrev pub told : {V Z : Type 0} → ℕ × Option (Arc V Z) → ℕ × Option V
+told e = (e.0, option_map arc_value e.1)
+
+-- what is found at a key: what an edit sets, where there is one, and o else
+abbrev pub edit_or : {V Z : Type 0} → Option (Option (Arc V Z)) → Option V → Option V
+edit_or None o = o
+edit_or (Some e) o = option_map arc_value e
+
+-- the first entry has a key above k, if there is one
+abbrev pub StartsAbove : {V : Type 0} → ℕ → List (ℕ × V) → Type 0
+StartsAbove k [] = Unit {0}
+StartsAbove k (e ∷ es) = k < e.0
+
+-- the rest of entries es is behind key k: es itself, where it starts above k, and else what follows the entry of k
+abbrev pub IsPast : {V : Type 0} → ℕ → List (ℕ × V) → List (ℕ × V) → Type 0
+IsPast {V} k es rest = ((rest ≡ es) × StartsAbove k es) ⊎ ((v : V) × (es ≡ (k, v) ∷ rest))

@@ -1,0 +1,22 @@
+//! Maps as want of memory leaves them in the midst of `edit_all`: their edits are noted alone.
+
+ghost use Rattle.std.specs.Prelude.{◌≡◌, IfOk};
+ghost use Rattle.radix_map.specs.Entries.{edited_all};
+
+use super::{Map, count};
+use crate::level::Edit;
+use crate::pending::{note, rise};
+use grid_core::Memory;
+
+/// The map after edits by strictly rising key, none of which its tree has.
+pub(crate) fn stopped<V: Drop>(map: Map<V>, edits: &[Edit<V>]) -> Result<Map<V>, Memory>
+    ensures { IfOk result (λ m. m ≡ edited_all map edits.now) }
+{
+    let mut map = map;
+    if !map.pending.is_empty() || !rise(edits) {
+        return map.with_all(edits);
+    }
+    note(&mut map.pending, edits)?;
+    map.len = count(&map.root, &map.pending);
+    Ok(map)
+}
