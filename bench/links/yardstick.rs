@@ -1,6 +1,7 @@
-//! The yardsticks of `bench_links`: the same work in Rust on three structures. `flat` is the proved
-//! one's own: two vectors in order. `linked` has nodes of four 32-bit indices in two lists at once,
-//! with the heads in vectors in order. `plain` has a vector of pixels for each segment, in a map.
+//! The yardsticks of `bench_links`: the same work in Rust on four structures. `same` is the proved
+//! one's own: nodes in two lists at once, in a store of plain places. `small` has nodes of four 32-bit indices, which
+//! name the places of the heads, in a plain vector. `flat` has the passes in two vectors in order, by
+//! segment and by pixel. `plain` has a vector of pixels for each segment, in a map.
 use std::collections::BTreeMap;
 use std::env;
 use std::hint::black_box;
@@ -26,6 +27,193 @@ trait Lists: Clone {
     fn unlink_segment(&mut self, name: Name);
     fn along(&self, name: Name, visit: impl FnMut(Point));
     fn across(&self, pixel: Point, visit: impl FnMut(Name));
+}
+
+// ---- nodes in two lists by key, in a store of plain places
+
+const NONE: u32 = u32::MAX;
+
+#[derive(Clone, Copy)]
+struct Pass {
+    name: Name,
+    pixel: Point,
+    along: u32,
+    across: u32,
+}
+
+#[derive(Clone, Copy)]
+enum Place {
+    Vacant(u32),
+    Taken(Pass),
+}
+
+#[derive(Clone)]
+struct Store {
+    places: Vec<Place>,
+    vacant: u32,
+    free: usize,
+}
+
+impl Store {
+    fn get(&self, key: u32) -> Option<&Pass> {
+        match self.places.get(key as usize) {
+            Some(Place::Taken(pass)) => Some(pass),
+            _ => None,
+        }
+    }
+
+    fn get_mut(&mut self, key: u32) -> &mut Pass {
+        match &mut self.places[key as usize] {
+            Place::Taken(pass) => pass,
+            Place::Vacant(_) => unreachable!(),
+        }
+    }
+
+    fn insert(&mut self, pass: Pass) -> u32 {
+        let key = self.vacant;
+        if key == NONE {
+            self.places.push(Place::Taken(pass));
+            return self.places.len() as u32 - 1;
+        }
+        if let Place::Vacant(next) = std::mem::replace(&mut self.places[key as usize], Place::Taken(pass)) {
+            self.vacant = next;
+            self.free -= 1;
+        }
+        key
+    }
+
+    fn remove(&mut self, key: u32) {
+        self.places[key as usize] = Place::Vacant(self.vacant);
+        self.vacant = key;
+        self.free += 1;
+    }
+}
+
+#[derive(Clone)]
+struct Same {
+    nodes: Store,
+    segments: Vec<(Name, u32)>,
+    pixels: Vec<(Point, u32)>,
+}
+
+fn first_of<K: Ord + Copy>(heads: &[(K, u32)], of: K) -> u32 {
+    match heads.binary_search_by_key(&of, |head| head.0) {
+        Ok(i) => heads[i].1,
+        Err(_) => NONE,
+    }
+}
+
+/// Sets where a list begins. The head of a list that has become empty goes.
+fn set_first<K: Ord + Copy>(heads: &mut Vec<(K, u32)>, of: K, first: u32) {
+    match heads.binary_search_by_key(&of, |head| head.0) {
+        Ok(i) if first == NONE => {
+            heads.remove(i);
+        }
+        Ok(i) => heads[i].1 = first,
+        Err(i) => heads.insert(i, (of, first)),
+    }
+}
+
+impl Same {
+    /// The first node of a pixel's list whose name isn't less, and the node before it.
+    fn seek_across(&self, pixel: Point, name: Name) -> (u32, u32) {
+        let (mut before, mut at) = (NONE, first_of(&self.pixels, pixel));
+        while let Some(pass) = self.nodes.get(at).filter(|pass| pass.name < name) {
+            (before, at) = (at, pass.across);
+        }
+        (before, at)
+    }
+
+    /// The node of a segment's list through a pixel, and the node before it.
+    fn seek_along(&self, name: Name, pixel: Point) -> (u32, u32) {
+        let (mut before, mut at) = (NONE, first_of(&self.segments, name));
+        while let Some(pass) = self.nodes.get(at).filter(|pass| pass.pixel != pixel) {
+            (before, at) = (at, pass.along);
+        }
+        (before, at)
+    }
+
+    fn set_along(&mut self, before: u32, name: Name, next: u32) {
+        if before == NONE {
+            set_first(&mut self.segments, name, next);
+        } else {
+            self.nodes.get_mut(before).along = next;
+        }
+    }
+
+    fn set_across(&mut self, before: u32, pixel: Point, next: u32) {
+        if before == NONE {
+            set_first(&mut self.pixels, pixel, next);
+        } else {
+            self.nodes.get_mut(before).across = next;
+        }
+    }
+
+    fn unlink(&mut self, name: Name, pixel: Point) {
+        let (before_along, at) = self.seek_along(name, pixel);
+        let (before_across, _) = self.seek_across(pixel, name);
+        let Some(&Pass { along, across, .. }) = self.nodes.get(at) else { return };
+        self.set_along(before_along, name, along);
+        self.set_across(before_across, pixel, across);
+        self.nodes.remove(at);
+    }
+}
+
+impl Lists for Same {
+    fn open() -> Same {
+        Same { nodes: Store { places: Vec::new(), vacant: NONE, free: 0 }, segments: Vec::new(), pixels: Vec::new() }
+    }
+
+    fn reserve(&mut self, more: usize) {
+        self.nodes.places.reserve(more.saturating_sub(self.nodes.free));
+        self.segments.reserve(more);
+        self.pixels.reserve(more);
+    }
+
+    fn has(&self, name: Name, pixel: Point) -> bool {
+        let at = self.seek_across(pixel, name).1;
+        self.nodes.get(at).is_some_and(|pass| pass.name == name)
+    }
+
+    fn link_between(&mut self, name: Name, pixel: Point, after: Option<Point>) {
+        let behind = after.map_or(NONE, |after| self.seek_across(after, name).1);
+        let along = match self.nodes.get(behind) {
+            Some(pass) => pass.along,
+            None => first_of(&self.segments, name),
+        };
+        let (before, across) = self.seek_across(pixel, name);
+        let new = self.nodes.insert(Pass { name, pixel, along, across });
+        self.set_along(behind, name, new);
+        self.set_across(before, pixel, new);
+    }
+
+    fn unlink_pixel(&mut self, pixel: Point) {
+        while let Some(pass) = self.nodes.get(first_of(&self.pixels, pixel)) {
+            self.unlink(pass.name, pixel);
+        }
+    }
+
+    fn unlink_segment(&mut self, name: Name) {
+        while let Some(pass) = self.nodes.get(first_of(&self.segments, name)) {
+            self.unlink(name, pass.pixel);
+        }
+    }
+
+    fn along(&self, name: Name, mut visit: impl FnMut(Point)) {
+        let mut at = first_of(&self.segments, name);
+        while let Some(pass) = self.nodes.get(at) {
+            visit(pass.pixel);
+            at = pass.along;
+        }
+    }
+
+    fn across(&self, pixel: Point, mut visit: impl FnMut(Name)) {
+        let mut at = first_of(&self.pixels, pixel);
+        while let Some(pass) = self.nodes.get(at) {
+            visit(pass.name);
+            at = pass.across;
+        }
+    }
 }
 
 // ---- two vectors in order
@@ -95,9 +283,7 @@ impl Lists for Flat {
     }
 }
 
-// ---- nodes in two lists by index
-
-const NONE: u32 = u32::MAX;
+// ---- small nodes in two lists by index
 
 #[derive(Clone, Copy)]
 struct Node {
@@ -108,14 +294,14 @@ struct Node {
 }
 
 #[derive(Clone)]
-struct Linked {
+struct Small {
     nodes: Vec<Node>,
     free: u32,
     segments: Vec<(Name, u32)>,
     pixels: Vec<(Point, u32)>,
 }
 
-impl Linked {
+impl Small {
     fn node_at(&self, segment: u32, pixel: u32) -> Option<u32> {
         let mut at = self.pixels[pixel as usize].1;
         while at != NONE {
@@ -159,9 +345,9 @@ impl Linked {
     }
 }
 
-impl Lists for Linked {
-    fn open() -> Linked {
-        Linked { nodes: Vec::new(), free: NONE, segments: Vec::new(), pixels: Vec::new() }
+impl Lists for Small {
+    fn open() -> Small {
+        Small { nodes: Vec::new(), free: NONE, segments: Vec::new(), pixels: Vec::new() }
     }
 
     fn reserve(&mut self, more: usize) {
@@ -335,7 +521,8 @@ fn link_all<L: Lists>(lists: &mut L) -> u64 {
             if (pixel + segment) % 4 == 0 {
                 let (name, at) = (name_of(segment), pixel_of(pixel));
                 if !lists.has(name, at) {
-                    lists.link_between(name, at, after);
+                    let before = after.filter(|before| lists.has(name, *before));
+                    lists.link_between(name, at, before);
                     after = Some(at);
                     linked += 1;
                 }
@@ -389,9 +576,10 @@ fn main() {
     let words: Vec<String> = env::args().skip(1).collect();
     let rounds = words[0].parse().expect("the number of rounds");
     let total = match words.get(2).map(String::as_str) {
-        Some("linked") => run::<Linked>(&words[1], rounds),
+        Some("small") => run::<Small>(&words[1], rounds),
+        Some("flat") => run::<Flat>(&words[1], rounds),
         Some("plain") => run::<Plain>(&words[1], rounds),
-        _ => run::<Flat>(&words[1], rounds),
+        _ => run::<Same>(&words[1], rounds),
     };
     println!("{rounds} rounds: {total}");
 }

@@ -1,189 +1,202 @@
--- What a pass put at its place, or passes filtered out, make of the two lists in order.
-use Rattle.std.proofs.Common.{◌≡◌, refl, ap, sym, ◌∙◌, subst, ℕ, Bool, true, false, cond, not, true≢false, List, [], map, is_eq, Option}
-use Rattle.std.specs.Prelude.{filter}
-use Rattle.std.specs.List.{insert}
-use Rattle.std.proofs.lemmas.Cmp.{tied_itself, eq_by_cmp_equiv}
+-- The lists stay filed when a node is linked into both its lists and when it is unlinked from both. In
+-- each family the way of one list changes by one key, so its values change by one value, and the laws of
+-- the two families of values say that they still agree.
+use Rattle.std.proofs.Common.{◌≡◌, ◌≢◌, refl, ap, sym, ◌∙◌, subst, ℕ, ◌<◌, Bool, true, false, not, cond, List, Option, None, Some, inl, inr}
+use Rattle.std.specs.Prelude.{◌==◌, filter}
+use Rattle.std.specs.Bool.{Decides}
 use Rattle.grid_core.specs.declared.point.Point.{Point}
-use Rattle.grid_core.specs.Vector.{point_cmp, point_eq}
-use Rattle.grid_core.specs.Name.{Label, label_cmp, label_eq}
-use Rattle.grid_core.proofs.Order.{point_total, label_total}
-use Rattle.pass_links.specs.declared.pass.Pass.{Pass}
-use Rattle.pass_links.specs.Passes.{PassLists, pixels_of, names_at, has_pixel, linked_behind, with_name, AreLinked}
-use Rattle.pass_links.specs.Runs.{below, run, above, IsInRuns, lists_of}
-use Rattle.pass_links.specs.Filing.{pixels_in, names_in, IsFiled, IsPlaceBehind, IsPlaceByName}
-use Rattle.pass_links.proofs.FilterLaws.{filter_kept, filter_none, filter_swapped, filter_of_map, insert_within, map_insert, filter_insert}
-use Rattle.pass_links.proofs.RunLaws.{with_run, runs_filtered, runs_replaced, run_replaced, run_beside, list_of_run, is_equal}
-use Rattle.pass_links.proofs.LinkedLaws.{linked_same, linked_empty, linked_more, linked_without_pixel, linked_without_segment}
+use Rattle.grid_core.specs.Vector.{point_eq}
+use Rattle.grid_core.specs.Name.{Label, label_eq}
+use Rattle.pass_links.specs.declared.node.Node.{Node}
+use Rattle.pass_links.specs.Chain.{end, way, has_key, is_of, IsFamily, listed}
+use Rattle.pass_links.specs.Node.{name_of, pixel_of, node_at, along_at, across_at, name_at, pixel_at}
+use Rattle.pass_links.specs.Lists.{pixels_from, names_from}
+use Rattle.pass_links.specs.Passes.{has_pixel, linked_behind, with_name, without_pixel, without_name}
+use Rattle.pass_links.specs.Filing.{AreFiled, AreLonger}
+use Rattle.pass_links.specs.Seek.{IsPlace, IsLesser, IsThrough}
+use Rattle.pass_links.specs.Links.{is_key}
+use Rattle.pass_links.proofs.FamilyLaws.{IsChanged}
+use Rattle.pass_links.proofs.ListedLaws.{listed_without, rising_once}
+use Rattle.pass_links.proofs.LinkedLaws.{linked_more, linked_less}
+use Rattle.pass_links.proofs.TestLaws.{keys_differ, point_decides, label_decides}
+use Rattle.pass_links.proofs.PlaceLaws.{put_key, labelled, place_put, place_taken, values_kept, before_in}
+use Rattle.pass_links.proofs.ValueLaws.{IsGreaterOf, key_at, pixel_put, name_put}
+use Rattle.pass_links.proofs.NodeLaws.{Relinks}
 
--- ---- one pass put at its place
+module _ {K : Type 0} (same : K → K → Bool) (decides : (m n : K) → Decides (same m n) (m ≡ n)) where
+  -- the key before a place is another than one without a label
+  before_fresh : (f : ℕ → ℕ) (first : K → ℕ) (label : ℕ → Option K) (q : K) (before : Option ℕ) (at x : ℕ) → IsPlace f first label q before at → label x ≡ None
+      → is_key before x ≡ false
+  before_fresh f first label q None at x place fresh = refl
+  before_fresh f first label q (Some p) at x place fresh = keys_differ x p (λ e. labelled same decides label q p x place.0 fresh (sym e))
 
-module _ (after : Option Point) (x : Pass) (xs : List Pass) (i : ℕ) (runs : IsInRuns label_cmp (λ (y : Pass). y.name) xs) (place : IsPlaceBehind after x.name xs i) where
-  own : List Pass
-  own = run label_cmp (λ (y : Pass). y.name) x.name xs
+  -- the key before a place is in the list
+  before_listed : (f : ℕ → ℕ) (first : K → ℕ) (label : ℕ → Option K) (q : K) (before : Option ℕ) (at : ℕ) → IsFamily same f first label end
+      → IsPlace f first label q before at → (p : ℕ) → before ≡ Some p → has_key (way f end (first q)) p ≡ true
+  before_listed f first label q before at h place p e =
+      before_in same decides f first label q p h (subst (λ b. IsPlace f first label q b at) e place).0
 
-  grown : List Pass
-  grown = insert own place.offset x
+-- ---- a pass is linked
 
-  grown_own : run label_cmp (λ (y : Pass). y.name) x.name grown ≡ grown
-  unfolding own grown
-  grown_own =
-      filter_insert (λ y. label_eq x.name y.name) own place.offset x
-      (filter_kept (λ (y : Pass). label_eq x.name y.name) (λ y. label_eq x.name y.name) (λ y e. e) xs)
-      (ap is_eq (tied_itself label_total x.name))
+-- what is linked has a free key and its places in both lists, and isn't linked yet
+pub record IsNew (old : List (Option Node)) (a : Label → ℕ) (b : Point → ℕ) (name : Label) (pixel : Point) (after : Option Point) (x : ℕ)
+    (before_a : Option ℕ) (at_a : ℕ) (before_b : Option ℕ) (at_b : ℕ) : Type 0 where
+  pub low : x < end
+  pub free : node_at old x ≡ None
+  pub along : IsPlace (along_at old) a (name_at old) name before_a at_a
+  pub across : IsPlace (across_at old) b (pixel_at old) pixel before_b at_b
+  pub behind : IsThrough (pixel_at old) after before_a
+  pub lesser : IsLesser (name_at old) name before_b
+  pub greater : IsGreaterOf (name_at old) name at_b
+  pub fresh : has_pixel (pixels_from old (a name)) pixel ≡ false
 
-  put : insert xs i x ≡ with_run label_total (λ (y : Pass). y.name) x.name grown xs
-  unfolding own grown
-  put =
-      insert_within (below label_cmp (λ (y : Pass). y.name) x.name xs) own (above label_cmp (λ (y : Pass). y.name) x.name xs) xs place.offset i x
-      (runs x.name) place.at place.in_run
+module _ (old new : List (Option Node)) (a a' : Label → ℕ) (b b' : Point → ℕ) (name : Label) (pixel : Point) (after : Option Point) (x : ℕ)
+    (before_a : Option ℕ) (at_a : ℕ) (before_b : Option ℕ) (at_b : ℕ) (filed : AreFiled old a b)
+    (w : IsNew old a b name pixel after x before_a at_a before_b at_b)
+    (c : Relinks old new a a' b b' name pixel x (Some (record { name = name; pixel = pixel; along = at_a; across = at_b })) before_a x before_b x) where
+  -- ---- the segment's list
 
-  pub segment_runs : IsInRuns label_cmp (λ (y : Pass). y.name) (insert xs i x)
-  segment_runs = subst (IsInRuns label_cmp (λ (y : Pass). y.name)) (sym put) (runs_replaced label_total (λ (y : Pass). y.name) x.name grown xs grown_own runs)
+  unnamed : name_at old x ≡ None
+  unnamed = ap name_of w.free
 
-  pub segment_linked : pixels_in (insert xs i x) x.name ≡ linked_behind after x.pixel (pixels_in xs x.name)
-  unfolding own grown
-  segment_linked =
-      ap (λ l. pixels_in l x.name) put
-      ∙ ap (map (λ (y : Pass). y.pixel)) (run_replaced label_total (λ (y : Pass). y.name) x.name x.name grown xs grown_own (tied_itself label_total x.name))
-      ∙ map_insert (λ (y : Pass). y.pixel) own place.offset x ∙ sym (place.behind x.pixel)
+  unplaced : pixel_at old x ≡ None
+  unplaced = ap pixel_of w.free
 
-  pub segments_beside : (n : Label) → label_eq n x.name ≡ false → pixels_in (insert xs i x) n ≡ pixels_in xs n
-  segments_beside n e =
-      ap (λ l. pixels_in l n) put
-      ∙ ap (map (λ (y : Pass). y.pixel)) (run_beside label_total (λ (y : Pass). y.name) x.name n grown xs grown_own runs ((eq_by_cmp_equiv label_total).symm x.name n ∙ e))
+  put_along : IsChanged label_eq (along_at old) a end (along_at new) a' (name_at new) end name (put_key before_a x (way (along_at old) end (a name)))
+  put_along =
+      place_put label_eq label_decides name before_a at_a x filed.along w.along w.low unnamed
+      (c.along_there ∙ ap (λ t. cond t x at_a) (before_fresh label_eq label_decides (along_at old) a (name_at old) name before_a at_a x w.along unnamed))
+      c.along c.name_there c.names
 
-module _ (y : Pass) (ys : List Pass) (i : ℕ) (runs : IsInRuns point_cmp (λ (z : Pass). z.pixel) ys) (place : IsPlaceByName y.pixel y.name ys i) where
-  own_names : List Pass
-  own_names = run point_cmp (λ (z : Pass). z.pixel) y.pixel ys
+  -- the values of the ways that were there
+  pixels_stay : (n : Label) → listed (pixel_at new) (way (along_at old) end (a n)) ≡ pixels_from old (a n)
+  pixels_stay n =
+      values_kept label_eq label_decides (along_at old) a (name_at old) (pixel_at old) (pixel_at new) n x filed.along (ap (is_of label_eq n) unnamed) c.pixels
 
-  grown_names : List Pass
-  grown_names = insert own_names place.offset y
+  stored : {V : Type 0} (v : ℕ → Option V) (k : ℕ) (u : V) → v k ≡ Some u → v x ≡ None → k ≢ x
+  stored v k u e n h = cc (ap v h)
 
-  grown_names_own : run point_cmp (λ (z : Pass). z.pixel) y.pixel grown_names ≡ grown_names
-  unfolding own_names grown_names
-  grown_names_own =
-      filter_insert (λ z. point_eq y.pixel z.pixel) own_names place.offset y
-      (filter_kept (λ (z : Pass). point_eq y.pixel z.pixel) (λ z. point_eq y.pixel z.pixel) (λ z e. e) ys)
-      (ap is_eq (tied_itself point_total y.pixel))
+  through : (o : Option Point) → IsThrough (pixel_at old) o before_a → IsThrough (pixel_at new) o before_a
+  through None h = h
+  through (Some p) h = (h.0, h.1, c.pixels h.0 (stored (pixel_at old) h.0 p h.2 unplaced) ∙ h.2)
 
-  put_name : insert ys i y ≡ with_run point_total (λ (z : Pass). z.pixel) y.pixel grown_names ys
-  unfolding own_names grown_names
-  put_name =
-      insert_within (below point_cmp (λ (z : Pass). z.pixel) y.pixel ys) own_names (above point_cmp (λ (z : Pass). z.pixel) y.pixel ys) ys place.offset i y
-      (runs y.pixel) place.at place.in_run
+  segment_put : pixels_from new (a' name) ≡ linked_behind after pixel (pixels_from old (a name))
+  segment_put =
+      ap (listed (pixel_at new)) put_along.here
+      ∙ pixel_put (pixel_at old) (pixel_at new) after before_a x pixel (way (along_at old) end (a name)) c.pixel_there (pixels_stay name)
+      (through after w.behind) (before_listed label_eq label_decides (along_at old) a (name_at old) name before_a at_a filed.along w.along)
+      (filed.linked.once name)
 
-  pub pixel_runs : IsInRuns point_cmp (λ (z : Pass). z.pixel) (insert ys i y)
-  pixel_runs = subst (IsInRuns point_cmp (λ (z : Pass). z.pixel)) (sym put_name) (runs_replaced point_total (λ (z : Pass). z.pixel) y.pixel grown_names ys grown_names_own runs)
+  segments_put : (n : Label) → label_eq n name ≡ false → pixels_from new (a' n) ≡ pixels_from old (a n)
+  segments_put n apart = ap (listed (pixel_at new)) (put_along.others n apart) ∙ pixels_stay n
 
-  pub pixel_linked : names_in (insert ys i y) y.pixel ≡ with_name y.name (names_in ys y.pixel)
-  unfolding own_names grown_names
-  pixel_linked =
-      ap (λ l. names_in l y.pixel) put_name
-      ∙ ap (map (λ (z : Pass). z.name)) (run_replaced point_total (λ (z : Pass). z.pixel) y.pixel y.pixel grown_names ys grown_names_own (tied_itself point_total y.pixel))
-      ∙ map_insert (λ (z : Pass). z.name) own_names place.offset y ∙ sym place.by_name
+  -- ---- the pixel's list
 
-  pub pixels_beside : (p : Point) → point_eq p y.pixel ≡ false → names_in (insert ys i y) p ≡ names_in ys p
-  pixels_beside p e =
-      ap (λ l. names_in l p) put_name
-      ∙ ap (map (λ (z : Pass). z.name)) (run_beside point_total (λ (z : Pass). z.pixel) y.pixel p grown_names ys grown_names_own runs ((eq_by_cmp_equiv point_total).symm y.pixel p ∙ e))
+  put_across : IsChanged point_eq (across_at old) b end (across_at new) b' (pixel_at new) end pixel (put_key before_b x (way (across_at old) end (b pixel)))
+  put_across =
+      place_put point_eq point_decides pixel before_b at_b x filed.across w.across w.low unplaced
+      (c.across_there ∙ ap (λ t. cond t x at_b) (before_fresh point_eq point_decides (across_at old) b (pixel_at old) pixel before_b at_b x w.across unplaced))
+      c.across c.pixel_there c.pixels
 
--- the lists stay filed
-pub filed_more : (after : Option Point) (x : Pass) (xs ys : List Pass) (i j : ℕ) → IsFiled xs ys → IsPlaceBehind after x.name xs i → IsPlaceByName x.pixel x.name ys j
-    → has_pixel (pixels_in xs x.name) x.pixel ≡ false → IsFiled (insert xs i x) (insert ys j x)
-filed_more after x xs ys i j filed a b fresh = record {
-  by_segment = segment_runs after x xs i filed.by_segment a;
-  by_pixel = pixel_runs x ys j filed.by_pixel b;
-  linked =
-      linked_more x.name x.pixel after filed.linked fresh
-      (segment_linked after x xs i filed.by_segment a) (segments_beside after x xs i filed.by_segment a)
-      (pixel_linked x ys j filed.by_pixel b) (pixels_beside x ys j filed.by_pixel b);
-}
+  names_stay : (p : Point) → listed (name_at new) (way (across_at old) end (b p)) ≡ names_from old (b p)
+  names_stay p =
+      values_kept point_eq point_decides (across_at old) b (pixel_at old) (name_at old) (name_at new) p x filed.across (ap (is_of point_eq p) unplaced) c.names
 
-pub filed_as : {xs xs' ys ys' : List Pass} → xs' ≡ xs → ys' ≡ ys → IsFiled xs ys → IsFiled xs' ys'
-filed_as {xs} {xs'} {ys} {ys'} e f h = subst (λ l. IsFiled xs' l) (sym f) (subst (λ l. IsFiled l ys) (sym e) h)
+  lesser : (o : Option ℕ) → IsLesser (name_at old) name o → IsLesser (name_at new) name o
+  lesser None h = tt
+  lesser (Some p) h = (h.0, c.names p (stored (name_at old) p h.0 h.1 unnamed) ∙ h.1, h.2)
 
--- a branch that was taken
-pub taken : {X : Type 0} (b : Bool) (x y z : X) → b ≡ true → z ≡ cond b x y → z ≡ x
-taken b x y z e f = f ∙ ap (λ b. cond b x y) e
+  greater : (k : ℕ) → IsGreaterOf (name_at old) name k → IsGreaterOf (name_at new) name k
+  greater k (inl e) = inl e
+  greater k (inr (m, e, less)) = inr (m, c.names k (stored (name_at old) k m e unnamed) ∙ e, less)
 
--- nothing is filed
-pub filed_empty : (xs ys : List Pass) → xs ≡ [] → ys ≡ [] → IsFiled xs ys
-filed_empty xs ys e f = record {
-  by_segment = subst (IsInRuns label_cmp (λ (x : Pass). x.name)) (sym e) (λ q. refl);
-  by_pixel = subst (IsInRuns point_cmp (λ (y : Pass). y.pixel)) (sym f) (λ q. refl);
-  linked = linked_empty (λ n. ap (λ l. pixels_in l n) e) (λ p. ap (λ l. names_in l p) f);
-}
+  comes : (o : Option ℕ) → IsPlace (across_at old) b (pixel_at old) pixel o at_b → key_at (across_at old) (b pixel) o ≡ at_b
+  comes None h = h
+  comes (Some p) h = h.1
 
--- ---- passes filtered out
+  pixel_here : names_from new (b' pixel) ≡ with_name name (names_from old (b pixel))
+  pixel_here =
+      ap (listed (name_at new)) put_across.here
+      ∙ name_put (across_at old) (name_at old) (name_at new) (b pixel) x name before_b (way (across_at old) end (b pixel)) (filed.across.whole pixel)
+      (filed.linked.rise pixel) c.name_there (names_stay pixel) (lesser before_b w.lesser)
+      (before_listed point_eq point_decides (across_at old) b (pixel_at old) pixel before_b at_b filed.across w.across)
+      (subst (IsGreaterOf (name_at new) name) (sym (comes before_b w.across)) (greater at_b w.greater))
 
--- by a test of the values in a run
-run_fewer : {X V : Type 0} (at : X → Bool) (value : X → V) (q : V → Bool) (xs : List X) → map value (filter at (filter (λ x. q (value x)) xs)) ≡ filter q (map value (filter at xs))
-run_fewer at value q xs = ap (map value) (filter_swapped (λ x. q (value x)) at xs) ∙ sym (filter_of_map q value (filter at xs))
+  pixels_put : (p : Point) → point_eq p pixel ≡ false → names_from new (b' p) ≡ names_from old (b p)
+  pixels_put p apart = ap (listed (name_at new)) (put_across.others p apart) ∙ names_stay p
 
-pub pixels_fewer : (pixel : Point) (xs : List Pass) (n : Label) → pixels_in (filter (λ (x : Pass). not (point_eq x.pixel pixel)) xs) n ≡ filter (λ p. not (point_eq p pixel)) (pixels_in xs n)
-pixels_fewer pixel xs n = run_fewer (λ (x : Pass). label_eq n x.name) (λ (x : Pass). x.pixel) (λ p. not (point_eq p pixel)) xs
+  pub filed_longer : AreLonger old new a a' b b' name pixel after
+  filed_longer = record {
+    filed = record {
+      along = put_along.family;
+      across = put_across.family;
+      linked = linked_more name pixel after filed.linked w.fresh segment_put segments_put pixel_here pixels_put;
+    };
+    segment = segment_put;
+    segments = segments_put;
+    here = pixel_here;
+    pixels = pixels_put;
+  }
 
-pub names_fewer : (name : Label) (ys : List Pass) (p : Point) → names_in (filter (λ (y : Pass). not (label_eq y.name name)) ys) p ≡ filter (λ m. not (label_eq m name)) (names_in ys p)
-names_fewer name ys p = run_fewer (λ (y : Pass). point_eq p y.pixel) (λ (y : Pass). y.name) (λ m. not (label_eq m name)) ys
+-- ---- a pass is unlinked
 
-flip_true : (b : Bool) → not b ≡ true → b ≡ false
-flip_true true e = absurd (true≢false (sym e))
-flip_true false e = refl
+-- the lists after a pass was unlinked
+pub record AreShorter (old new : List (Option Node)) (a a' : Label → ℕ) (b b' : Point → ℕ) (name : Label) (pixel : Point) : Type 0 where
+  pub filed : AreFiled new a' b'
+  pub segment : pixels_from new (a' name) ≡ without_pixel pixel (pixels_from old (a name))
+  pub segments : (n : Label) → label_eq n name ≡ false → pixels_from new (a' n) ≡ pixels_from old (a n)
+  pub here : names_from new (b' pixel) ≡ without_name name (names_from old (b pixel))
+  pub pixels : (p : Point) → point_eq p pixel ≡ false → names_from new (b' p) ≡ names_from old (b p)
 
-pub pixels_none : (name : Label) (xs : List Pass) → pixels_in (filter (λ (x : Pass). not (label_eq x.name name)) xs) name ≡ []
-pixels_none name xs =
-    ap (map (λ (x : Pass). x.pixel))
-    (filter_none (λ (x : Pass). not (label_eq x.name name)) (λ (x : Pass). label_eq name x.name) (λ x e. (eq_by_cmp_equiv label_total).symm name x.name ∙ flip_true _ e) xs)
+module _ (old new : List (Option Node)) (a a' : Label → ℕ) (b b' : Point → ℕ) (name : Label) (pixel : Point) (y : ℕ)
+    (before_a before_b : Option ℕ) (filed : AreFiled old a b) (named : name_at old y ≡ Some name) (placed : pixel_at old y ≡ Some pixel)
+    (along : IsPlace (along_at old) a (name_at old) name before_a y) (across : IsPlace (across_at old) b (pixel_at old) pixel before_b y)
+    (c : Relinks old new a a' b b' name pixel y None before_a (along_at old y) before_b (across_at old y)) where
+  taken_along : IsChanged label_eq (along_at old) a end (along_at new) a' (name_at new) end name (filter (λ k. not (k == y)) (way (along_at old) end (a name)))
+  taken_along = place_taken label_eq label_decides name before_a y filed.along along named c.along c.name_there c.names
 
-pub names_none : (pixel : Point) (ys : List Pass) → names_in (filter (λ (y : Pass). not (point_eq y.pixel pixel)) ys) pixel ≡ []
-names_none pixel ys =
-    ap (map (λ (y : Pass). y.name))
-    (filter_none (λ (y : Pass). not (point_eq y.pixel pixel)) (λ (y : Pass). point_eq pixel y.pixel) (λ y e. (eq_by_cmp_equiv point_total).symm pixel y.pixel ∙ flip_true _ e) ys)
+  taken_across : IsChanged point_eq (across_at old) b end (across_at new) b' (pixel_at new) end pixel (filter (λ k. not (k == y)) (way (across_at old) end (b pixel)))
+  taken_across = place_taken point_eq point_decides pixel before_b y filed.across across placed c.across c.pixel_there c.pixels
 
-pub pixels_kept : (name : Label) (xs : List Pass) (n : Label) → label_eq n name ≡ false → pixels_in (filter (λ (x : Pass). not (label_eq x.name name)) xs) n ≡ pixels_in xs n
-pixels_kept name xs n apart =
-    ap (map (λ (x : Pass). x.pixel))
-    (filter_swapped (λ (x : Pass). not (label_eq x.name name)) (λ (x : Pass). label_eq n x.name) xs
-    ∙ filter_kept (λ (x : Pass). label_eq n x.name) (λ (x : Pass). not (label_eq x.name name))
-    (λ x e. ap not (sym (ap is_eq (label_total.congr n x.name name (is_equal _ e))) ∙ apart)) xs)
+  -- the values of the ways that are left
+  pixels_left : (n : Label) → pixels_from new (a' n) ≡ listed (pixel_at old) (way (along_at new) end (a' n))
+  pixels_left n =
+      values_kept label_eq label_decides (along_at new) a' (name_at new) (pixel_at old) (pixel_at new) n y taken_along.family
+      (ap (is_of label_eq n) c.name_there) c.pixels
 
-pub names_kept : (pixel : Point) (ys : List Pass) (p : Point) → point_eq p pixel ≡ false → names_in (filter (λ (y : Pass). not (point_eq y.pixel pixel)) ys) p ≡ names_in ys p
-names_kept pixel ys p apart =
-    ap (map (λ (y : Pass). y.name))
-    (filter_swapped (λ (y : Pass). not (point_eq y.pixel pixel)) (λ (y : Pass). point_eq p y.pixel) ys
-    ∙ filter_kept (λ (y : Pass). point_eq p y.pixel) (λ (y : Pass). not (point_eq y.pixel pixel))
-    (λ y e. ap not (sym (ap is_eq (point_total.congr p y.pixel pixel (is_equal _ e))) ∙ apart)) ys)
+  names_left : (p : Point) → names_from new (b' p) ≡ listed (name_at old) (way (across_at new) end (b' p))
+  names_left p =
+      values_kept point_eq point_decides (across_at new) b' (pixel_at new) (name_at old) (name_at new) p y taken_across.family
+      (ap (is_of point_eq p) c.pixel_there) c.names
 
-pub filed_without_pixel : (pixel : Point) (xs ys : List Pass) → IsFiled xs ys
-    → IsFiled (filter (λ (x : Pass). not (point_eq x.pixel pixel)) xs) (filter (λ (y : Pass). not (point_eq y.pixel pixel)) ys)
-filed_without_pixel pixel xs ys filed = record {
-  by_segment = runs_filtered label_total (λ (x : Pass). x.name) (λ (x : Pass). not (point_eq x.pixel pixel)) xs filed.by_segment;
-  by_pixel = runs_filtered point_total (λ (y : Pass). y.pixel) (λ (y : Pass). not (point_eq y.pixel pixel)) ys filed.by_pixel;
-  linked = linked_without_pixel pixel filed.linked (pixels_fewer pixel xs) (names_none pixel ys) (names_kept pixel ys);
-}
+  segment_taken : pixels_from new (a' name) ≡ without_pixel pixel (pixels_from old (a name))
+  segment_taken =
+      pixels_left name ∙ ap (listed (pixel_at old)) taken_along.here
+      ∙ listed_without point_eq point_decides (pixel_at old) y pixel (way (along_at old) end (a name)) placed
+      (before_in label_eq label_decides (along_at old) a (name_at old) name y filed.along named) (filed.linked.once name pixel)
 
-pub filed_without_segment : (name : Label) (xs ys : List Pass) → IsFiled xs ys
-    → IsFiled (filter (λ (x : Pass). not (label_eq x.name name)) xs) (filter (λ (y : Pass). not (label_eq y.name name)) ys)
-filed_without_segment name xs ys filed = record {
-  by_segment = runs_filtered label_total (λ (x : Pass). x.name) (λ (x : Pass). not (label_eq x.name name)) xs filed.by_segment;
-  by_pixel = runs_filtered point_total (λ (y : Pass). y.pixel) (λ (y : Pass). not (label_eq y.name name)) ys filed.by_pixel;
-  linked = linked_without_segment name filed.linked (pixels_none name xs) (pixels_kept name xs) (names_fewer name ys);
-}
+  segments_taken : (n : Label) → label_eq n name ≡ false → pixels_from new (a' n) ≡ pixels_from old (a n)
+  segments_taken n apart = pixels_left n ∙ ap (listed (pixel_at old)) (taken_along.others n apart)
 
--- ---- what contracts see
+  pixel_taken : names_from new (b' pixel) ≡ without_name name (names_from old (b pixel))
+  pixel_taken =
+      names_left pixel ∙ ap (listed (name_at old)) taken_across.here
+      ∙ listed_without label_eq label_decides (name_at old) y name (way (across_at old) end (b pixel)) named
+      (before_in point_eq point_decides (across_at old) b (pixel_at old) pixel y filed.across placed)
+      (rising_once name (names_from old (b pixel)) (filed.linked.rise pixel))
 
-abbrev pub seen : List Pass → List Pass → ℕ → PassLists
-seen xs ys spare = record {
-  segments = lists_of label_cmp (λ (x : Pass). x.name) (λ (x : Pass). x.pixel) xs;
-  pixels = lists_of point_cmp (λ (y : Pass). y.pixel) (λ (y : Pass). y.name) ys;
-  spare = spare;
-}
+  pixels_taken : (p : Point) → point_eq p pixel ≡ false → names_from new (b' p) ≡ names_from old (b p)
+  pixels_taken p apart = names_left p ∙ ap (listed (name_at old)) (taken_across.others p apart)
 
-pub seen_pixels : (v : PassLists) (xs ys : List Pass) (spare : ℕ) → seen xs ys spare ≡ v → (n : Label) → pixels_of v n ≡ pixels_in xs n
-seen_pixels v xs ys spare e n = ap (λ w. pixels_of w n) (sym e) ∙ list_of_run label_total (λ (x : Pass). x.name) (λ (x : Pass). x.pixel) xs n
-
-pub seen_names : (v : PassLists) (xs ys : List Pass) (spare : ℕ) → seen xs ys spare ≡ v → (p : Point) → names_at v p ≡ names_in ys p
-seen_names v xs ys spare e p = ap (λ w. names_at w p) (sym e) ∙ list_of_run point_total (λ (y : Pass). y.pixel) (λ (y : Pass). y.name) ys p
-
-pub seen_linked : (v : PassLists) (xs ys : List Pass) (spare : ℕ) → seen xs ys spare ≡ v → IsFiled xs ys → AreLinked (pixels_of v) (names_at v)
-seen_linked v xs ys spare e filed = linked_same filed.linked (seen_pixels v xs ys spare e) (seen_names v xs ys spare e)
+  pub filed_shorter : AreShorter old new a a' b b' name pixel
+  filed_shorter = record {
+    filed = record {
+      along = taken_along.family;
+      across = taken_across.family;
+      linked = linked_less name pixel filed.linked segment_taken segments_taken pixel_taken pixels_taken;
+    };
+    segment = segment_taken;
+    segments = segments_taken;
+    here = pixel_taken;
+    pixels = pixels_taken;
+  }

@@ -1,29 +1,22 @@
--- The two families of lists agree when they are empty, when a pass is linked, and when the passes of
--- a pixel or of a segment are unlinked. Lists are followed through what stands in them, never through
--- how they are kept.
-use Rattle.std.proofs.Common.{◌≡◌, refl, ap, sym, ◌∙◌, subst, ◌+◌, ◌≤◌, arith, Bool, true, false, cond, not, ◌&&◌, ◌||◌, true≢false, List, [], ◌∷◌, ◌++◌, Ordering, Less, Equal, Greater, is_lt, is_eq, Option, None, Some}
+-- The two families of lists agree when they are empty, when a pass is linked, and when one is unlinked.
+-- Lists are followed through what stands in them, never through how they are kept.
+use Rattle.std.proofs.Common.{◌≡◌, refl, ap, sym, ◌∙◌, subst, ◌+◌, ◌≤◌, arith, Bool, true, false, cond, not, ◌&&◌, ◌||◌, List, [], ◌∷◌, ◌++◌, Ordering, Less, Equal, Greater, is_lt, is_eq, Option, None, Some}
 use Rattle.std.specs.Prelude.{filter, count_by}
 use Rattle.std.specs.Cmp.{IsTotalOrder}
 use Rattle.std.specs.List.{list_any, AllByRecursion}
 use Rattle.std.specs.List.Sorted.{IsStrictlySortedBy}
 use Rattle.std.specs.Ordering.{ordering_reverse, eq_by_cmp}
-use Rattle.std.proofs.lemmas.Cmp.{alike_right, eq_by_cmp_equiv}
+use Rattle.std.proofs.lemmas.Cmp.{alike_right}
 use Rattle.std.proofs.lemmas.List.Kept.{IsStrictlySortedBy-filter}
 use Rattle.std.proofs.lemmas.List.Sums.{sum_by-cons}
 use Rattle.grid_core.specs.declared.point.Point.{Point}
 use Rattle.grid_core.specs.Vector.{point_eq}
 use Rattle.grid_core.specs.Name.{Label, label_cmp, label_eq}
-use Rattle.grid_core.proofs.Order.{point_total, point_exact, label_total, label_exact}
+use Rattle.grid_core.proofs.Order.{point_exact, label_total, label_exact}
 use Rattle.pass_links.specs.Passes.{has_pixel, has_name, put_behind, linked_behind, with_name, AreLinked}
-use Rattle.pass_links.proofs.RunLaws.{is_less, is_equal}
+use Rattle.pass_links.proofs.TestLaws.{is_less, is_equal, point_decides, label_decides, count_none, count_filter, any_left, or_swapped}
 
 -- ---- tests
-
-or_swapped : (a b c : Bool) → (a || (b || c)) ≡ (b || (a || c))
-or_swapped true true c = refl
-or_swapped true false c = refl
-or_swapped false true c = refl
-or_swapped false false c = refl
 
 or_regrouped : (a b c : Bool) → ((a || b) || c) ≡ (a || (b || c))
 or_regrouped true b c = refl
@@ -40,59 +33,13 @@ or_again : (q whole : Bool) → (q || whole) ≡ (q || (q || whole))
 or_again true whole = refl
 or_again false whole = refl
 
-taken_out : (a b c : Bool) → (c ≡ true → a ≡ false) → (a || (b && not c)) ≡ ((a || b) && not c)
-taken_out true b true h = absurd (true≢false (h refl))
-taken_out true b false h = refl
-taken_out false b c h = refl
-
-out_again : (b c : Bool) → (b && not c) ≡ ((c || b) && not c)
-out_again true true = refl
-out_again true false = refl
-out_again false true = refl
-out_again false false = refl
-
 -- ---- what stands in a list
 
-any_append : {X : Type 0} (p : X → Bool) (xs ys : List X) → list_any p (xs ++ ys) ≡ (list_any p xs || list_any p ys)
+pub any_append : {X : Type 0} (p : X → Bool) (xs ys : List X) → list_any p (xs ++ ys) ≡ (list_any p xs || list_any p ys)
 any_append p [] ys = refl
 any_append p (x ∷ xs) ys = ap (λ b. p x || b) (any_append p xs ys) ∙ sym (or_regrouped (p x) (list_any p xs) (list_any p ys))
 
-count_none : {X : Type 0} (p : X → Bool) (xs : List X) → list_any p xs ≡ false → count_by p xs ≡ 0
-count_none p [] h = refl
-count_none p (x ∷ xs) h = by (count_none p xs) (p x) refl
-  where
-    by : (list_any p xs ≡ false → count_by p xs ≡ 0) → (b : Bool) → p x ≡ b → count_by p (x ∷ xs) ≡ 0
-    by rest true e = absurd (true≢false (sym (ap (λ b. b || list_any p xs) e) ∙ h))
-    by rest false e =
-        sum_by-cons (λ y. cond (p y) 1 0) x xs ∙ (λ i. ap (λ b. cond b 1 0) e i + rest (sym (ap (λ b. b || list_any p xs) e) ∙ h) i)
-
-count_filter : {X : Type 0} (p q : X → Bool) (xs : List X) → count_by p (filter q xs) ≤ count_by p xs
-count_filter p q [] = omega arith
-count_filter p q (x ∷ xs) = by (count_filter p q xs) (q x)
-  where
-    by : count_by p (filter q xs) ≤ count_by p xs → (b : Bool) → count_by p (cond b (x ∷ filter q xs) (filter q xs)) ≤ count_by p (x ∷ xs)
-    by rest true = omega (arith, sum_by-cons (λ y. cond (p y) 1 0) x xs, sum_by-cons (λ y. cond (p y) 1 0) x (filter q xs))
-    by rest false = omega (arith, sum_by-cons (λ y. cond (p y) 1 0) x xs)
-
 module _ {K : Type 0} {R : K → K → Ordering} (o : IsTotalOrder R) where
-  -- what is equal to the key k, all taken out
-  pub any_without : (n k : K) (ks : List K) → list_any (eq_by_cmp R n) (filter (λ m. not (eq_by_cmp R m k)) ks) ≡ (list_any (eq_by_cmp R n) ks && not (eq_by_cmp R n k))
-  any_without n k [] = refl
-  any_without n k (m ∷ ms) = by (any_without n k ms) (eq_by_cmp R m k) refl
-    where
-      apart : eq_by_cmp R m k ≡ false → eq_by_cmp R n k ≡ true → eq_by_cmp R n m ≡ false
-      apart e t = ap is_eq (o.congr n k m (is_equal _ t)) ∙ (eq_by_cmp_equiv o).symm k m ∙ e
-
-      by : list_any (eq_by_cmp R n) (filter (λ j. not (eq_by_cmp R j k)) ms) ≡ (list_any (eq_by_cmp R n) ms && not (eq_by_cmp R n k))
-          → (b : Bool) → eq_by_cmp R m k ≡ b
-          → list_any (eq_by_cmp R n) (cond (not b) (m ∷ filter (λ j. not (eq_by_cmp R j k)) ms) (filter (λ j. not (eq_by_cmp R j k)) ms))
-          ≡ ((eq_by_cmp R n m || list_any (eq_by_cmp R n) ms) && not (eq_by_cmp R n k))
-      by rest true e =
-          rest ∙ out_again (list_any (eq_by_cmp R n) ms) (eq_by_cmp R n k)
-          ∙ ap (λ r. (is_eq r || list_any (eq_by_cmp R n) ms) && not (eq_by_cmp R n k)) (sym (alike_right o m k n (is_equal _ e)))
-      by rest false e =
-          ap (λ b. eq_by_cmp R n m || b) rest ∙ taken_out (eq_by_cmp R n m) (list_any (eq_by_cmp R n) ms) (eq_by_cmp R n k) (apart e)
-
   any_in_parts : (n k : K) (ks : List K)
       → (list_any (eq_by_cmp R n) (filter (λ m. is_lt (R m k)) ks) || (eq_by_cmp R n k || list_any (eq_by_cmp R n) (filter (λ m. is_lt (R k m)) ks)))
       ≡ (eq_by_cmp R n k || list_any (eq_by_cmp R n) ks)
@@ -167,7 +114,7 @@ has_put p after x (q ∷ ps) = by (has_put p after x ps) (point_eq after q)
     by rest true = or_swapped (point_eq p q) (point_eq p x) (has_pixel ps p)
     by rest false = ap (λ b. point_eq p q || b) rest ∙ or_swapped (point_eq p q) (point_eq p x) (has_pixel ps p)
 
-has_linked : (p : Point) (after : Option Point) (x : Point) (ps : List Point) → has_pixel (linked_behind after x ps) p ≡ (point_eq p x || has_pixel ps p)
+pub has_linked : (p : Point) (after : Option Point) (x : Point) (ps : List Point) → has_pixel (linked_behind after x ps) p ≡ (point_eq p x || has_pixel ps p)
 has_linked p None x ps = refl
 has_linked p (Some after) x ps = has_put p after x ps
 
@@ -214,12 +161,6 @@ more_linked true false x y x' y' e s t u v = s refl ∙ e ∙ sym (v refl)
 more_linked false true x y x' y' e s t u v = t refl ∙ e ∙ sym (u refl)
 more_linked false false x y x' y' e s t u v = t refl ∙ e ∙ sym (v refl)
 
-fewer_linked : (c x y x' y' : Bool) → x ≡ y → x' ≡ (x && not c) → (c ≡ true → y' ≡ false) → (c ≡ false → y' ≡ y) → x' ≡ y'
-fewer_linked true true y x' y' e s u v = s ∙ sym (u refl)
-fewer_linked true false y x' y' e s u v = s ∙ sym (u refl)
-fewer_linked false true y x' y' e s u v = s ∙ e ∙ sym (v refl)
-fewer_linked false false y x' y' e s u v = s ∙ e ∙ sym (v refl)
-
 -- one pass more
 pub linked_more : {f f' : Label → List Point} {g g' : Point → List Label} (name : Label) (pixel : Point) (after : Option Point) → AreLinked f g
     → has_pixel (f name) pixel ≡ false → f' name ≡ linked_behind after pixel (f name) → ((n : Label) → label_eq n name ≡ false → f' n ≡ f n)
@@ -257,38 +198,43 @@ linked_more {f} {f'} {g} {g'} name pixel after h fresh segment segments at other
         subst (IsStrictlySortedBy label_cmp) (sym (ap g' (point_exact p pixel (is_equal _ d)) ∙ at)) (rises_in_place label_total name (g pixel) (h.rise pixel))
     rise p false d = subst (IsStrictlySortedBy label_cmp) (sym (others p d)) (h.rise p)
 
--- the passes of a pixel taken out
-pub linked_without_pixel : {f f' : Label → List Point} {g g' : Point → List Label} (pixel : Point) → AreLinked f g
-    → ((n : Label) → f' n ≡ filter (λ p. not (point_eq p pixel)) (f n)) → g' pixel ≡ [] → ((p : Point) → point_eq p pixel ≡ false → g' p ≡ g p) → AreLinked f' g'
-linked_without_pixel {f} {f'} {g} {g'} pixel h segments at others = record {
+and_true : (b : Bool) → (b && true) ≡ b
+and_true true = refl
+and_true false = refl
+
+less_linked : (a c x y x' y' : Bool) → x ≡ y → (a ≡ true → x' ≡ (x && not c)) → (a ≡ false → x' ≡ x) → (c ≡ true → y' ≡ (y && not a)) → (c ≡ false → y' ≡ y) → x' ≡ y'
+less_linked true true x y x' y' e s t u v = s refl ∙ ap (λ b. b && false) e ∙ sym (u refl)
+less_linked true false x y x' y' e s t u v = s refl ∙ and_true x ∙ e ∙ sym (v refl)
+less_linked false true x y x' y' e s t u v = t refl ∙ e ∙ sym (and_true y) ∙ sym (u refl)
+less_linked false false x y x' y' e s t u v = t refl ∙ e ∙ sym (v refl)
+
+-- one pass less
+pub linked_less : {f f' : Label → List Point} {g g' : Point → List Label} (name : Label) (pixel : Point) → AreLinked f g
+    → f' name ≡ filter (λ p. not (point_eq p pixel)) (f name) → ((n : Label) → label_eq n name ≡ false → f' n ≡ f n)
+    → g' pixel ≡ filter (λ n. not (label_eq n name)) (g pixel) → ((p : Point) → point_eq p pixel ≡ false → g' p ≡ g p) → AreLinked f' g'
+linked_less {f} {f'} {g} {g'} name pixel h segment segments at others = record {
   agree = λ n p.
-      fewer_linked (point_eq p pixel) (has_pixel (f n) p) (has_name (g p) n) (has_pixel (f' n) p) (has_name (g' p) n) (h.agree n p)
-      (ap (λ l. has_pixel l p) (segments n) ∙ any_without point_total p pixel (f n))
-      (λ e. ap (λ q. has_name (g' q) n) (point_exact p pixel (is_equal _ e)) ∙ ap (λ l. has_name l n) at)
+      less_linked (label_eq n name) (point_eq p pixel) (has_pixel (f n) p) (has_name (g p) n) (has_pixel (f' n) p) (has_name (g' p) n) (h.agree n p)
+      (λ e. let same : n ≡ name = label_exact n name (is_equal _ e) in
+      ap (λ m. has_pixel (f' m) p) same ∙ ap (λ l. has_pixel l p) segment ∙ any_left point_eq point_decides p pixel (f name)
+      ∙ ap (λ m. has_pixel (f m) p && not (point_eq p pixel)) (sym same))
+      (λ e. ap (λ l. has_pixel l p) (segments n e))
+      (λ e. let same : p ≡ pixel = point_exact p pixel (is_equal _ e) in
+      ap (λ q. has_name (g' q) n) same ∙ ap (λ l. has_name l n) at ∙ any_left label_eq label_decides n name (g pixel)
+      ∙ ap (λ q. has_name (g q) n && not (label_eq n name)) (sym same))
       (λ e. ap (λ l. has_name l n) (others p e));
-  once = λ n p.
-      subst (λ l. count_by (point_eq p) l ≤ 1) (sym (segments n))
-      (omega (arith, count_filter (point_eq p) (λ q. not (point_eq q pixel)) (f n), h.once n p));
+  once = λ n p. once n p (label_eq n name) refl;
   rise = λ p. rise p (point_eq p pixel) refl;
 }
   where
-    rise : (p : Point) (c : Bool) → point_eq p pixel ≡ c → IsStrictlySortedBy label_cmp (g' p)
-    rise p true d = subst (IsStrictlySortedBy label_cmp) (sym (ap g' (point_exact p pixel (is_equal _ d)) ∙ at)) no_names
-    rise p false d = subst (IsStrictlySortedBy label_cmp) (sym (others p d)) (h.rise p)
-
--- the passes of a segment taken out
-pub linked_without_segment : {f f' : Label → List Point} {g g' : Point → List Label} (name : Label) → AreLinked f g
-    → f' name ≡ [] → ((n : Label) → label_eq n name ≡ false → f' n ≡ f n) → ((p : Point) → g' p ≡ filter (λ n. not (label_eq n name)) (g p)) → AreLinked f' g'
-linked_without_segment {f} {f'} {g} {g'} name h segment segments pixels = record {
-  agree = λ n p.
-      sym (fewer_linked (label_eq n name) (has_name (g p) n) (has_pixel (f n) p) (has_name (g' p) n) (has_pixel (f' n) p) (sym (h.agree n p))
-      (ap (λ l. has_name l n) (pixels p) ∙ any_without label_total n name (g p))
-      (λ e. ap (λ m. has_pixel (f' m) p) (label_exact n name (is_equal _ e)) ∙ ap (λ l. has_pixel l p) segment)
-      (λ e. ap (λ l. has_pixel l p) (segments n e)));
-  once = λ n p. once n p (label_eq n name) refl;
-  rise = λ p. subst (IsStrictlySortedBy label_cmp) (sym (pixels p)) (IsStrictlySortedBy-filter label_cmp (λ n. not (label_eq n name)) (g p) (h.rise p));
-}
-  where
     once : (n : Label) (p : Point) (a : Bool) → label_eq n name ≡ a → count_by (point_eq p) (f' n) ≤ 1
-    once n p true e = subst (λ l. count_by (point_eq p) l ≤ 1) (sym (ap f' (label_exact n name (is_equal _ e)) ∙ segment)) (omega arith)
+    once n p true e =
+        subst (λ l. count_by (point_eq p) l ≤ 1) (sym (ap f' (label_exact n name (is_equal _ e)) ∙ segment))
+        (omega (arith, count_filter (point_eq p) (λ q. not (point_eq q pixel)) (f name), h.once name p))
     once n p false e = subst (λ l. count_by (point_eq p) l ≤ 1) (sym (segments n e)) (h.once n p)
+
+    rise : (p : Point) (c : Bool) → point_eq p pixel ≡ c → IsStrictlySortedBy label_cmp (g' p)
+    rise p true d =
+        subst (IsStrictlySortedBy label_cmp) (sym (ap g' (point_exact p pixel (is_equal _ d)) ∙ at))
+        (IsStrictlySortedBy-filter label_cmp (λ n. not (label_eq n name)) (g pixel) (h.rise pixel))
+    rise p false d = subst (IsStrictlySortedBy label_cmp) (sym (others p d)) (h.rise p)

@@ -1,311 +1,169 @@
--- Lists in runs by key. A key's run may be replaced by any elements of the same key: the list stays
--- in runs, and the other runs stay. For each key q an element is less than, at or greater than q;
--- each part of the list (below the replaced run, the run, above it) falls under one of these.
-use Rattle.std.proofs.Common.{◌≡◌, refl, ap, sym, ◌∙◌, ℕ, ◌+◌, ◌-◌, ◌<◌, ◌≤◌, arith, inl, inr, Bool, true, false, cond, true≢false, List, [], ◌∷◌, ◌++◌, map, length, take, drop, get_or, append_assoc, append-nil, length-append, subst, Ordering, Less, Equal, Greater, is_lt, is_eq, Some}
-use Rattle.std.specs.Prelude.{filter}
-use Rattle.std.specs.Cmp.{IsTotalOrder}
-use Rattle.std.specs.List.{All, AllByRecursion}
-use Rattle.std.specs.List.Sorted.{IsPartitionedBy, IsPartitionPoint, IsStrictlySortedBy}
-use Rattle.std.proofs.lemmas.List.{get_or_append_left, get_or-append_right, take_rest, take_at, drop_at}
-use Rattle.std.proofs.lemmas.List.Elements.{All-append, All-weaker, filter_passes}
-use Rattle.std.specs.Option.{unwrap_or}
-use Rattle.std.specs.Ordering.{ordering_reverse, is_le}
-use Rattle.std.specs.FinMap.{get, get-empty, get-insert, get_tied}
-use Rattle.std.proofs.lemmas.Bool.{cases_lt}
-use Rattle.std.proofs.lemmas.Cmp.{tied_back, alike_right}
-use Rattle.pass_links.specs.Runs.{below, run, above, IsInRuns, list_at, lists_of}
-use Rattle.pass_links.proofs.FilterLaws.{filter_kept, filter_none, filter_swapped, filter_three}
+-- A run of pixels linked one behind the other: after i of them, what is left of the run, put behind the
+-- last one that was linked, gives the list that the whole run gives.
+use Rattle.std.proofs.Common.{◌≡◌, refl, ap, sym, ◌∙◌, subst, ℕ, ◌+◌, Bool, true, false, cond, ◌||◌, true≢false, List, [], ◌∷◌, ◌++◌, append-nil, take, drop, Option, None, Some}
+use Rattle.std.proofs.lemmas.Bool.{or_parts}
+use Rattle.grid_core.specs.declared.point.Point.{Point}
+use Rattle.grid_core.specs.Vector.{point_eq}
+use Rattle.grid_core.specs.Name.{Label, label_eq}
+use Rattle.pass_links.specs.Passes.{PassLists, pixels_of, names_at, has_pixel, put_behind, linked_behind, put_run, run_behind, AreFresh, with_name}
+use Rattle.pass_links.specs.declared.node.Node.{Node}
+use Rattle.pass_links.specs.Node.{along_at, name_at, pixel_at}
+use Rattle.pass_links.specs.Lists.{pixels_from, names_from}
+use Rattle.pass_links.specs.Seek.{IsPlace, IsThrough}
+use Rattle.pass_links.specs.Filing.{AreFiled, AreLonger}
+use Rattle.pass_links.proofs.TestLaws.{itself, or_false, point_decides}
+use Rattle.pass_links.proofs.LinkedLaws.{has_linked, any_append}
 
-pub is_less : (r : Ordering) → is_lt r ≡ true → r ≡ Less
-is_less Less h = refl
-is_less Equal h = absurd (true≢false (sym h))
-is_less Greater h = absurd (true≢false (sym h))
+-- ---- lists
 
-pub is_equal : (r : Ordering) → is_eq r ≡ true → r ≡ Equal
-is_equal Less h = absurd (true≢false (sym h))
-is_equal Equal h = refl
-is_equal Greater h = absurd (true≢false (sym h))
+-- no run
+run_none : (last : Option Point) (ps : List Point) → run_behind last [] ps ≡ ps
+run_none None ps = refl
+run_none (Some a) [] = refl
+run_none (Some a) (p ∷ ps) = by (run_none (Some a) ps) (point_eq a p)
+  where
+    by : put_run a [] ps ≡ ps → (b : Bool) → cond b (p ∷ ps) (p ∷ put_run a [] ps) ≡ p ∷ ps
+    by rest true = refl
+    by rest false = ap (λ l. p ∷ l) rest
 
--- the elements below, at and above a key, in three parts
-pub record Parts {X : Type 0} (p q r : X → Bool) (xs low mid high : List X) : Type 0 where
-  pub first : filter p xs ≡ low
-  pub second : filter q xs ≡ mid
-  pub third : filter r xs ≡ high
+-- a run put behind the first of the list
+run_first : (p : Point) (run ps : List Point) → put_run p run (p ∷ ps) ≡ p ∷ (run ++ ps)
+run_first p run ps = ap (λ b. cond b (p ∷ (run ++ ps)) (p ∷ put_run p run ps)) (itself point_eq point_decides p)
 
-joined : {X : Type 0} {p q r : X → Bool} {xs ys zs a1 a2 a3 b1 b2 b3 c1 c2 c3 : List X} → Parts p q r xs a1 a2 a3 → Parts p q r ys b1 b2 b3 → Parts p q r zs c1 c2 c3
-    → Parts p q r (xs ++ (ys ++ zs)) (a1 ++ (b1 ++ c1)) (a2 ++ (b2 ++ c2)) (a3 ++ (b3 ++ c3))
-joined {p = p} {q = q} {r = r} {xs = xs} {ys = ys} {zs = zs} a b c = record {
-  first = filter_three p xs ys zs ∙ (λ i. a.first i ++ (b.first i ++ c.first i));
-  second = filter_three q xs ys zs ∙ (λ i. a.second i ++ (b.second i ++ c.second i));
-  third = filter_three r xs ys zs ∙ (λ i. a.third i ++ (b.third i ++ c.third i));
-}
+-- the first of a run linked, and the others behind it
+run_step : (last : Option Point) (p : Point) (run ps : List Point) → has_pixel ps p ≡ false
+    → run_behind last (p ∷ run) ps ≡ run_behind (Some p) run (linked_behind last p ps)
+run_step None p run ps fresh = sym (run_first p run ps)
+run_step (Some a) p run [] fresh = ap (λ l. p ∷ l) (sym (append-nil run)) ∙ sym (run_first p run [])
+run_step (Some a) p run (q ∷ ps) fresh = by (run_step (Some a) p run ps (or_parts (point_eq p q) (has_pixel ps p) fresh).1) (point_eq a q)
+  where
+    apart : (point_eq p q ≡ false) × (has_pixel ps p ≡ false)
+    apart = or_parts (point_eq p q) (has_pixel ps p) fresh
 
-last_split : {X : Type 0} (low mid high c1 c2 c3 : List X) → high ≡ c1 ++ (c2 ++ c3) → low ++ (mid ++ high) ≡ (low ++ (mid ++ c1)) ++ (c2 ++ c3)
-last_split low mid high c1 c2 c3 e = ap (λ l. low ++ (mid ++ l)) e ∙ simp append_assoc
+    past : (rs : List Point) → put_run p run (q ∷ rs) ≡ q ∷ put_run p run rs
+    past rs = ap (λ b. cond b (q ∷ (run ++ rs)) (q ∷ put_run p run rs)) apart.0
 
-first_split : {X : Type 0} (low mid high a1 a2 a3 : List X) → low ≡ a1 ++ (a2 ++ a3) → low ++ (mid ++ high) ≡ (a1 ++ ([] ++ [])) ++ ((a2 ++ ([] ++ [])) ++ (a3 ++ (mid ++ high)))
-first_split low mid high a1 a2 a3 e = ap (λ l. l ++ (mid ++ high)) e ∙ simp (append-nil, append_assoc)
+    by : run_behind (Some a) (p ∷ run) ps ≡ run_behind (Some p) run (linked_behind (Some a) p ps) → (b : Bool)
+        → cond b (q ∷ ((p ∷ run) ++ ps)) (q ∷ put_run a (p ∷ run) ps) ≡ put_run p run (cond b (q ∷ p ∷ ps) (q ∷ put_behind a p ps))
+    by rest true = ap (λ l. q ∷ l) (sym (run_first p run ps)) ∙ sym (past (p ∷ ps))
+    by rest false = ap (λ l. q ∷ l) rest ∙ sym (past (put_behind a p ps))
 
-whole : {X : Type 0} (low mid high : List X) → low ++ (mid ++ high) ≡ (low ++ ([] ++ [])) ++ (([] ++ (mid ++ [])) ++ ([] ++ ([] ++ high)))
-whole low mid high = simp append-nil
+-- two pixels that are two, the other way round
+turned : (p q : Point) → point_eq p q ≡ false → point_eq q p ≡ false
+turned p q e = by (point_eq q p) refl
+  where
+    by : (b : Bool) → point_eq q p ≡ b → b ≡ false
+    by true t = absurd (true≢false (sym ((point_decides p q).1 (sym ((point_decides q p).0 t))) ∙ e))
+    by false t = refl
 
--- ---- a list whose first elements pass a test, and the others don't
+-- the others are still fresh once the first is linked
+fresh_step : (last : Option Point) (p : Point) (run ps : List Point) → has_pixel run p ≡ false → AreFresh run ps → AreFresh run (linked_behind last p ps)
+fresh_step last p [] ps apart h = tt
+fresh_step last p (q ∷ run) ps apart h =
+    let parts = or_parts (point_eq p q) (has_pixel run p) apart in
+    (has_linked q last p ps ∙ ap (λ b. b || has_pixel ps q) (turned p q parts.0) ∙ h.0, h.1, fresh_step last p run ps parts.1 h.2)
 
-passes_before : {X : Type 0} (d : X) (p : X → Bool) (front more : List X) (k : ℕ) → All (λ x. p x ≡ true) front → k < length front → p (get_or (front ++ more) k d) ≡ true
-passes_before d p front more k h l = ap p (get_or_append_left front more d k l) ∙ h k d l
+-- ---- a run that is being linked
 
-fails_after : {X : Type 0} (d : X) (p : X → Bool) (front more : List X) (k : ℕ) → All (λ x. p x ≡ false) more → length front ≤ k → k < length (front ++ more) → p (get_or (front ++ more) k d) ≡ false
-fails_after d p front more k h le l =
-    ap p (get_or-append_right front more (length front) k d refl le) ∙ h (k - length front) d (omega (arith, length-append front more))
+-- so many of the run's pixels are linked
+pub record LinksRun (name : Label) (after : Option Point) (run : List Point) (old : PassLists) (i : ℕ) (slots : List (Option Node))
+    (start : Label → ℕ) (start' : Point → ℕ) (before : Option ℕ) (at : ℕ) : Type 0 where
+  pub lists : AreFiled slots start start'
+  pub place : IsPlace (along_at slots) start (name_at slots) name before at
+  pub last : Option Point
+  pub through : IsThrough (pixel_at slots) last before
+  pub segment : run_behind last (drop i run) (pixels_from slots (start name)) ≡ run_behind after run (pixels_of old name)
+  pub segments : (n : Label) → label_eq n name ≡ false → pixels_from slots (start n) ≡ pixels_of old n
+  pub here : (p : Point) → has_pixel (take i run) p ≡ true → names_from slots (start' p) ≡ with_name name (names_at old p)
+  pub others : (p : Point) → has_pixel (take i run) p ≡ false → names_from slots (start' p) ≡ names_at old p
+  pub linked : (p : Point) → has_pixel (take i run) p ≡ true → has_pixel (pixels_from slots (start name)) p ≡ true
+  pub fresh : AreFresh (drop i run) (pixels_from slots (start name))
 
-is_parted : {X : Type 0} (p : X → Bool) (front more : List X) → All (λ x. p x ≡ true) front → All (λ x. p x ≡ false) more → IsPartitionedBy p (front ++ more)
-is_parted p front more f m i j d le l t =
-    elim (cases_lt j (length front)) [
-      | inl a ↦ passes_before d p front more i f (omega arith)
-      | inr b ↦ absurd (true≢false (sym t ∙ fails_after d p front more j m b l))
-    ]
-
--- a binary search finds where they part
-parted : {X : Type 0} (d : X) (p : X → Bool) (front more : List X) (i : ℕ) → All (λ x. p x ≡ true) front → All (λ x. p x ≡ false) more → i ≤ length (front ++ more)
-    → IsPartitionPoint (λ x. p x ≡ true) (λ x. p x ≡ false) (front ++ more) i → i ≡ length front
-parted d p front more i f m le h =
-    let n : length (front ++ more) ≡ length front + length more = length-append front more in
-    elim (cases_lt i (length front)) [
-      | inl a ↦ absurd (true≢false (sym (passes_before d p front more i f a) ∙ h.1 i d (omega arith) (omega arith)))
-      | inr b ↦ elim (cases_lt (length front) i) [
-        | inl c ↦ absurd (true≢false (sym (h.0 (length front) d (omega arith) c) ∙ fails_after d p front more (length front) m (omega arith) (omega arith)))
-        | inr c ↦ omega arith
-      ]
-    ]
-
-parted_at : {X : Type 0} (d : X) (p : X → Bool) (front more xs : List X) (i : ℕ) → xs ≡ front ++ more → All (λ x. p x ≡ true) front → All (λ x. p x ≡ false) more → i ≤ length xs
-    → (IsPartitionedBy p xs → IsPartitionPoint (λ x. p x ≡ true) (λ x. p x ≡ false) xs i) → i ≡ length front
-parted_at d p front more xs i e f m =
-    subst (λ ys. i ≤ length ys → (IsPartitionedBy p ys → IsPartitionPoint (λ x. p x ≡ true) (λ x. p x ≡ false) ys i) → i ≡ length front) (sym e)
-    (λ le found. parted d p front more i f m le (found (is_parted p front more f m)))
-
-module _ {K X : Type 0} {R : K → K → Ordering} (o : IsTotalOrder R) (key : X → K) where
-  abbrev PartsAt : K → List X → List X → List X → List X → Type 0
-  PartsAt q = Parts (λ x. is_lt (R (key x) q)) (λ x. is_eq (R q (key x))) (λ x. is_lt (R q (key x)))
-
-  turned : (x : X) (q : K) (r : Ordering) → R (key x) q ≡ r → R q (key x) ≡ ordering_reverse r
-  turned x q r e = o.antisymm q (key x) ∙ ap ordering_reverse e
-
-  lesser : (q : K) (p : X → Bool) → ((x : X) → p x ≡ true → R (key x) q ≡ Less) → (xs : List X) → PartsAt q (filter p xs) (filter p xs) [] []
-  lesser q p h xs = record {
-    first = filter_kept p (λ x. is_lt (R (key x) q)) (λ x e. ap is_lt (h x e)) xs;
-    second = filter_none p (λ x. is_eq (R q (key x))) (λ x e. ap is_eq (turned x q Less (h x e))) xs;
-    third = filter_none p (λ x. is_lt (R q (key x))) (λ x e. ap is_lt (turned x q Less (h x e))) xs;
+module _ (name : Label) (after : Option Point) (run : List Point) (old : PassLists) where
+  -- none yet
+  pub run_begun : (slots : List (Option Node)) (start : Label → ℕ) (start' : Point → ℕ) (before : Option ℕ) (at : ℕ) → AreFiled slots start start'
+      → IsPlace (along_at slots) start (name_at slots) name before at → IsThrough (pixel_at slots) after before
+      → ((n : Label) → pixels_of old n ≡ pixels_from slots (start n)) → ((p : Point) → names_at old p ≡ names_from slots (start' p))
+      → AreFresh run (pixels_of old name) → LinksRun name after run old 0 slots start start' before at
+  run_begun slots start start' before at lists place through was had fresh = record {
+    lists = lists;
+    place = place;
+    last = after;
+    through = through;
+    segment = ap (run_behind after run) (sym (was name));
+    segments = λ n apart. sym (was n);
+    here = λ p e. absurd (true≢false (sym e));
+    others = λ p e. sym (had p);
+    linked = λ p e. absurd (true≢false (sym e));
+    fresh = subst (AreFresh run) (was name) fresh;
   }
 
-  equal : (q : K) (p : X → Bool) → ((x : X) → p x ≡ true → R (key x) q ≡ Equal) → (xs : List X) → PartsAt q (filter p xs) [] (filter p xs) []
-  equal q p h xs = record {
-    first = filter_none p (λ x. is_lt (R (key x) q)) (λ x e. ap is_lt (h x e)) xs;
-    second = filter_kept p (λ x. is_eq (R q (key x))) (λ x e. ap is_eq (turned x q Equal (h x e))) xs;
-    third = filter_none p (λ x. is_lt (R q (key x))) (λ x e. ap is_lt (turned x q Equal (h x e))) xs;
+  -- the first of those that are left may be linked
+  pub run_fresh : {i : ℕ} {slots : List (Option Node)} {start : Label → ℕ} {start' : Point → ℕ} {before : Option ℕ} {at : ℕ} (pixel : Point)
+      → LinksRun name after run old i slots start start' before at → drop i run ≡ pixel ∷ drop (i + 1) run
+      → has_pixel (pixels_from slots (start name)) pixel ≡ false
+  run_fresh {slots = slots} {start = start} pixel h e = (subst (λ ps. AreFresh ps (pixels_from slots (start name))) e h.fresh).0
+
+  -- one more
+  pub run_more : {i : ℕ} {slots slots' : List (Option Node)} {start next : Label → ℕ} {start' next' : Point → ℕ} {before : Option ℕ} {at : ℕ} (pixel : Point) (key : ℕ)
+      → LinksRun name after run old i slots start start' before at → drop i run ≡ pixel ∷ drop (i + 1) run → take (i + 1) run ≡ take i run ++ pixel ∷ []
+      → ((last : Option Point) → IsThrough (pixel_at slots) last before → AreLonger slots slots' start next start' next' name pixel last)
+      → IsPlace (along_at slots') next (name_at slots') name (Some key) at → pixel_at slots' key ≡ Some pixel
+      → LinksRun name after run old (i + 1) slots' next next' (Some key) at
+  run_more {i} {slots} {slots'} {start} {next} {start'} {next'} pixel key h left taken longer place through = record {
+    lists = more.filed;
+    place = place;
+    last = Some pixel;
+    through = (key, refl, through);
+    segment =
+        ap (run_behind (Some pixel) (drop (i + 1) run)) more.segment
+        ∙ sym (run_step h.last pixel (drop (i + 1) run) (pixels_from slots (start name)) fresh.0)
+        ∙ ap (λ ps. run_behind h.last ps (pixels_from slots (start name))) (sym left) ∙ h.segment;
+    segments = λ n apart. more.segments n apart ∙ h.segments n apart;
+    here = λ p e. here p (point_eq p pixel) refl (sym (has_more p) ∙ e);
+    others = λ p e. others p (or_parts (has_pixel (take i run) p) (point_eq p pixel) (sym (has_more p) ∙ e));
+    linked = λ p e. linked p (point_eq p pixel) refl (sym (has_more p) ∙ e);
+    fresh =
+        subst (AreFresh (drop (i + 1) run)) (sym more.segment)
+        (fresh_step h.last pixel (drop (i + 1) run) (pixels_from slots (start name)) fresh.1 fresh.2);
   }
-
-  greater : (q : K) (p : X → Bool) → ((x : X) → p x ≡ true → R (key x) q ≡ Greater) → (xs : List X) → PartsAt q (filter p xs) [] [] (filter p xs)
-  greater q p h xs = record {
-    first = filter_none p (λ x. is_lt (R (key x) q)) (λ x e. ap is_lt (h x e)) xs;
-    second = filter_none p (λ x. is_eq (R q (key x))) (λ x e. ap is_eq (turned x q Greater (h x e))) xs;
-    third = filter_kept p (λ x. is_lt (R q (key x))) (λ x e. ap is_lt (turned x q Greater (h x e))) xs;
-  }
-
-  -- an element at n stands to q as n does
-  at_n : (n q : K) (x : X) → is_eq (R n (key x)) ≡ true → R (key x) q ≡ R n q
-  at_n n q x e = sym (o.congr n (key x) q (is_equal _ e))
-
-  under : (n q : K) (x : X) → R n q ≡ Less → is_lt (R (key x) n) ≡ true → R (key x) q ≡ Less
-  under n q x l e = o.trans (key x) n q (is_less _ e) l
-
-  under_tied : (n q : K) (x : X) → R n q ≡ Equal → is_lt (R (key x) n) ≡ true → R (key x) q ≡ Less
-  under_tied n q x t e = sym (alike_right o n q (key x) t) ∙ is_less _ e
-
-  over : (n q : K) (x : X) → R n q ≡ Greater → is_lt (R n (key x)) ≡ true → R (key x) q ≡ Greater
-  over n q x g e =
-      let q_n : R q n ≡ Less = o.antisymm q n ∙ ap ordering_reverse g in
-      o.antisymm (key x) q ∙ ap ordering_reverse (o.trans q n (key x) q_n (is_less _ e))
-
-  over_tied : (n q : K) (x : X) → R n q ≡ Equal → is_lt (R n (key x)) ≡ true → R (key x) q ≡ Greater
-  over_tied n q x t e = o.antisymm (key x) q ∙ ap ordering_reverse (sym (o.congr n q (key x) t) ∙ is_less _ e)
-
-  -- a filter keeps the runs
-  pub runs_filtered : (p : X → Bool) (xs : List X) → IsInRuns R key xs → IsInRuns R key (filter p xs)
-  runs_filtered p xs h q =
-      ap (filter p) (h q) ∙ filter_three p (below R key q xs) (run R key q xs) (above R key q xs)
-      ∙ (λ i. filter_swapped (λ x. is_lt (R (key x) q)) p xs i ++ (filter_swapped (λ x. is_eq (R q (key x))) p xs i ++ filter_swapped (λ x. is_lt (R q (key x))) p xs i))
-
-  -- the list with another run at n
-  abbrev pub with_run : K → List X → List X → List X
-  with_run n mid xs = below R key n xs ++ (mid ++ above R key n xs)
-
-  own_parts : (q : K) (xs : List X) → PartsAt q xs (below R key q xs) (run R key q xs) (above R key q xs)
-  own_parts q xs = record { first = refl; second = refl; third = refl }
-
-  -- the parts of the list with another run at n, where n is less than q, ties with it, or is greater
-  parts_less : (n q : K) → R n q ≡ Less → (mid xs : List X) → run R key n mid ≡ mid
-      → PartsAt q (with_run n mid xs) (below R key n xs ++ (mid ++ below R key q (above R key n xs))) (run R key q (above R key n xs)) (above R key q (above R key n xs))
-  parts_less n q e mid xs at =
-      joined (lesser q (λ x. is_lt (R (key x) n)) (λ x k. under n q x e k) xs)
-      (subst (λ l. PartsAt q l l [] []) at (lesser q (λ x. is_eq (R n (key x))) (λ x k. at_n n q x k ∙ e) mid))
-      (own_parts q (above R key n xs))
-
-  parts_equal : (n q : K) → R n q ≡ Equal → (mid xs : List X) → run R key n mid ≡ mid
-      → PartsAt q (with_run n mid xs) (below R key n xs ++ ([] ++ [])) ([] ++ (mid ++ [])) ([] ++ ([] ++ above R key n xs))
-  parts_equal n q e mid xs at =
-      joined (lesser q (λ x. is_lt (R (key x) n)) (λ x k. under_tied n q x e k) xs)
-      (subst (λ l. PartsAt q l [] l []) at (equal q (λ x. is_eq (R n (key x))) (λ x k. at_n n q x k ∙ e) mid))
-      (greater q (λ x. is_lt (R n (key x))) (λ x k. over_tied n q x e k) xs)
-
-  parts_greater : (n q : K) → R n q ≡ Greater → (mid xs : List X) → run R key n mid ≡ mid
-      → PartsAt q (with_run n mid xs) (below R key q (below R key n xs) ++ ([] ++ [])) (run R key q (below R key n xs) ++ ([] ++ []))
-      (above R key q (below R key n xs) ++ (mid ++ above R key n xs))
-  parts_greater n q e mid xs at =
-      joined (own_parts q (below R key n xs))
-      (subst (λ l. PartsAt q l [] [] l) at (greater q (λ x. is_eq (R n (key x))) (λ x k. at_n n q x k ∙ e) mid))
-      (greater q (λ x. is_lt (R n (key x))) (λ x k. over n q x e k) xs)
-
-  in_parts : (q : K) {xs low mid high : List X} → PartsAt q xs low mid high → xs ≡ low ++ (mid ++ high) → xs ≡ below R key q xs ++ (run R key q xs ++ above R key q xs)
-  in_parts q h e = e ∙ sym (λ i. h.first i ++ (h.second i ++ h.third i))
-
-  -- the list stays in runs
-  pub runs_replaced : (n : K) (mid xs : List X) → run R key n mid ≡ mid → IsInRuns R key xs → IsInRuns R key (with_run n mid xs)
-  runs_replaced n mid xs at h q = by (R n q) refl
     where
-      by : (r : Ordering) → R n q ≡ r → with_run n mid xs ≡ below R key q (with_run n mid xs) ++ (run R key q (with_run n mid xs) ++ above R key q (with_run n mid xs))
-      by Less e =
-          in_parts q (parts_less n q e mid xs at)
-          (last_split (below R key n xs) mid (above R key n xs) (below R key q (above R key n xs)) (run R key q (above R key n xs)) (above R key q (above R key n xs)) (runs_filtered (λ x. is_lt (R n (key x))) xs h q))
-      by Equal e = in_parts q (parts_equal n q e mid xs at) (whole (below R key n xs) mid (above R key n xs))
-      by Greater e =
-          in_parts q (parts_greater n q e mid xs at)
-          (first_split (below R key n xs) mid (above R key n xs) (below R key q (below R key n xs)) (run R key q (below R key n xs)) (above R key q (below R key n xs)) (runs_filtered (λ x. is_lt (R (key x) n)) xs h q))
+      more : AreLonger slots slots' start next start' next' name pixel h.last
+      more = longer h.last h.through
 
-  -- the replaced run is the new one
-  pub run_replaced : (n q : K) (mid xs : List X) → run R key n mid ≡ mid → R n q ≡ Equal → run R key q (with_run n mid xs) ≡ mid
-  run_replaced n q mid xs at e = (parts_equal n q e mid xs at).second ∙ append-nil mid
+      fresh : AreFresh (pixel ∷ drop (i + 1) run) (pixels_from slots (start name))
+      fresh = subst (λ ps. AreFresh ps (pixels_from slots (start name))) left h.fresh
 
-  -- any other run stays
-  pub run_beside : (n q : K) (mid xs : List X) → run R key n mid ≡ mid → IsInRuns R key xs → is_eq (R n q) ≡ false
-      → run R key q (with_run n mid xs) ≡ run R key q xs
-  run_beside n q mid xs at h apart = by (R n q) refl
-    where
-      own : run R key n (run R key n xs) ≡ run R key n xs
-      own = filter_kept (λ x. is_eq (R n (key x))) (λ x. is_eq (R n (key x))) (λ x k. k) xs
+      has_more : (p : Point) → has_pixel (take (i + 1) run) p ≡ (has_pixel (take i run) p || point_eq p pixel)
+      has_more p = ap (λ ps. has_pixel ps p) taken ∙ any_append (point_eq p) (take i run) (pixel ∷ []) ∙ ap (λ b. has_pixel (take i run) p || b) (or_false (point_eq p pixel))
 
-      by : (r : Ordering) → R n q ≡ r → run R key q (with_run n mid xs) ≡ run R key q xs
-      by Less e =
-          (parts_less n q e mid xs at).second ∙ sym (parts_less n q e (run R key n xs) xs own).second ∙ sym (ap (run R key q) (h n))
-      by Equal e = absurd (true≢false (sym (ap is_eq e) ∙ apart))
-      by Greater e =
-          (parts_greater n q e mid xs at).second ∙ sym (parts_greater n q e (run R key n xs) xs own).second ∙ sym (ap (run R key q) (h n))
+      -- the pixel wasn't among those before
+      new : has_pixel (take i run) pixel ≡ false
+      new = by (has_pixel (take i run) pixel) refl
+        where
+          by : (b : Bool) → has_pixel (take i run) pixel ≡ b → b ≡ false
+          by true e = absurd (true≢false (sym (h.linked pixel e) ∙ fresh.0))
+          by false e = refl
 
-  -- ---- a list whose keys rise strictly is in runs
+      here : (p : Point) (b : Bool) → point_eq p pixel ≡ b → (has_pixel (take i run) p || b) ≡ true → names_from slots' (next' p) ≡ with_name name (names_at old p)
+      here p true e _ =
+          let same : p ≡ pixel = (point_decides p pixel).0 e in
+          ap (λ q. names_from slots' (next' q)) same ∙ more.here ∙ ap (with_name name) (h.others pixel new) ∙ ap (λ q. with_name name (names_at old q)) (sym same)
+      here p false e t = more.pixels p e ∙ h.here p (sym (or_false (has_pixel (take i run) p)) ∙ t)
 
-  parts_lesser : (q : K) (x : X) {xs low mid high : List X} → R (key x) q ≡ Less → PartsAt q xs low mid high → PartsAt q (x ∷ xs) (x ∷ low) mid high
-  parts_lesser q x {xs = xs} e h = record {
-    first = ap (λ r. cond (is_lt r) (x ∷ below R key q xs) (below R key q xs)) e ∙ ap (λ l. x ∷ l) h.first;
-    second = ap (λ r. cond (is_eq r) (x ∷ run R key q xs) (run R key q xs)) (turned x q Less e) ∙ h.second;
-    third = ap (λ r. cond (is_lt r) (x ∷ above R key q xs) (above R key q xs)) (turned x q Less e) ∙ h.third;
-  }
+      others : (p : Point) → (has_pixel (take i run) p ≡ false) × (point_eq p pixel ≡ false) → names_from slots' (next' p) ≡ names_at old p
+      others p apart = more.pixels p apart.1 ∙ h.others p apart.0
 
-  parts_equal_key : (q : K) (x : X) {xs low mid high : List X} → R (key x) q ≡ Equal → PartsAt q xs low mid high → PartsAt q (x ∷ xs) low (x ∷ mid) high
-  parts_equal_key q x {xs = xs} e h = record {
-    first = ap (λ r. cond (is_lt r) (x ∷ below R key q xs) (below R key q xs)) e ∙ h.first;
-    second = ap (λ r. cond (is_eq r) (x ∷ run R key q xs) (run R key q xs)) (turned x q Equal e) ∙ ap (λ l. x ∷ l) h.second;
-    third = ap (λ r. cond (is_lt r) (x ∷ above R key q xs) (above R key q xs)) (turned x q Equal e) ∙ h.third;
-  }
+      linked : (p : Point) (b : Bool) → point_eq p pixel ≡ b → (has_pixel (take i run) p || b) ≡ true → has_pixel (pixels_from slots' (next name)) p ≡ true
+      linked p b e t =
+          ap (λ ps. has_pixel ps p) more.segment ∙ has_linked p h.last pixel (pixels_from slots (start name)) ∙ ap (λ c. c || has_pixel (pixels_from slots (start name)) p) e ∙ by b t
+        where
+          by : (b : Bool) → (has_pixel (take i run) p || b) ≡ true → (b || has_pixel (pixels_from slots (start name)) p) ≡ true
+          by true t = refl
+          by false t = h.linked p (sym (or_false (has_pixel (take i run) p)) ∙ t)
 
-  parts_over : (q : K) (x : X) {xs low mid high : List X} → R (key x) q ≡ Greater → PartsAt q xs low mid high → PartsAt q (x ∷ xs) low mid (x ∷ high)
-  parts_over q x {xs = xs} e h = record {
-    first = ap (λ r. cond (is_lt r) (x ∷ below R key q xs) (below R key q xs)) e ∙ h.first;
-    second = ap (λ r. cond (is_eq r) (x ∷ run R key q xs) (run R key q xs)) (turned x q Greater e) ∙ h.second;
-    third = ap (λ r. cond (is_lt r) (x ∷ above R key q xs) (above R key q xs)) (turned x q Greater e) ∙ ap (λ l. x ∷ l) h.third;
-  }
-
-  all_over : (q : K) (xs : List X) → AllByRecursion (λ y. R q y ≡ Less) (map key xs) → PartsAt q xs [] [] xs
-  all_over q [] h = record { first = refl; second = refl; third = refl }
-  all_over q (x ∷ xs) h = parts_over q x (o.antisymm (key x) q ∙ ap ordering_reverse h.0) (all_over q xs h.1)
-
-  -- what comes after x comes after all that isn't after x
-  ahead : (q x : K) (r : Ordering) → R x q ≡ r → is_lt r ≡ false → (ys : List X) → AllByRecursion (λ y. R x y ≡ Less) (map key ys) → AllByRecursion (λ y. R q y ≡ Less) (map key ys)
-  ahead q x r e f [] h = tt
-  ahead q x Less e f (y ∷ ys) h = absurd (true≢false f)
-  ahead q x Equal e f (y ∷ ys) h = (sym (o.congr x q (key y) e) ∙ h.0, ahead q x Equal e f ys h.1)
-  ahead q x Greater e f (y ∷ ys) h = (o.trans q x (key y) (o.antisymm q x ∙ ap ordering_reverse e) h.0, ahead q x Greater e f ys h.1)
-
-  pub sorted_in_runs : (xs : List X) → IsStrictlySortedBy R (map key xs) → IsInRuns R key xs
-  unfolding IsStrictlySortedBy
-  sorted_in_runs [] s q = refl
-  sorted_in_runs (x ∷ xs) s q = by (sorted_in_runs xs s.1 q) (R (key x) q) refl
-    where
-      by : xs ≡ below R key q xs ++ (run R key q xs ++ above R key q xs) → (r : Ordering) → R (key x) q ≡ r
-          → x ∷ xs ≡ below R key q (x ∷ xs) ++ (run R key q (x ∷ xs) ++ above R key q (x ∷ xs))
-      by rest Less e = in_parts q (parts_lesser q x e (own_parts q xs)) (ap (λ l. x ∷ l) rest)
-      by rest Equal e = in_parts q (parts_equal_key q x e (all_over q xs (ahead q (key x) Equal e refl xs s.0))) refl
-      by rest Greater e = in_parts q (parts_over q x e (all_over q xs (ahead q (key x) Greater e refl xs s.0))) refl
-
-  -- how far the run of a key may reach
-  pub run_within : (q : K) (xs : List X) → IsInRuns R key xs → length (below R key q xs) + length (run R key q xs) ≤ length xs
-  run_within q xs h =
-      omega (arith, ap length (h q), length-append (below R key q xs) (run R key q xs ++ above R key q xs), length-append (run R key q xs) (above R key q xs))
-
-  -- in the map of lists, the list of a key is its run
-  pub list_of_run : {V : Type 0} (value : X → V) (xs : List X) (q : K) → list_at (lists_of R key value xs) q ≡ map value (run R key q xs)
-  unfolding lists_of
-  list_of_run value [] q = ap (λ s. unwrap_or s []) (get-empty R q)
-  list_of_run value (x ∷ xs) q =
-      ap (λ s. unwrap_or s []) (get-insert o (lists_of R key value xs) (key x) _ q) ∙ by (list_of_run value xs q) (R q (key x)) refl
-    where
-      by : list_at (lists_of R key value xs) q ≡ map value (run R key q xs) → (r : Ordering) → R q (key x) ≡ r
-          → unwrap_or (cond (is_eq r) (Some (value x ∷ list_at (lists_of R key value xs) (key x))) (get (lists_of R key value xs) q)) []
-          ≡ map value (cond (is_eq r) (x ∷ run R key q xs) (run R key q xs))
-      by rest Less e = rest
-      by rest Equal e =
-          ap (λ s. value x ∷ unwrap_or s []) (get_tied o (lists_of R key value xs) q (key x) e)
-          ∙ ap (λ l. value x ∷ l) rest
-      by rest Greater e = rest
-
-  -- the elements below, of and above a key, as a search by tests sees them
-  pub below_pass : (q : K) (xs : List X) → All (λ x. is_lt (R (key x) q) ≡ true) (below R key q xs)
-  below_pass q xs = filter_passes (λ x. is_lt (R (key x) q)) xs
-
-  not_below : (q : K) (xs : List X) → All (λ x. is_lt (R (key x) q) ≡ false) (run R key q xs ++ above R key q xs)
-  not_below q xs =
-      All-append (λ x. is_lt (R (key x) q) ≡ false) (run R key q xs) (above R key q xs)
-      (All-weaker (λ x. is_eq (R q (key x)) ≡ true) (λ x. is_lt (R (key x) q) ≡ false)
-      (λ x h. ap is_lt (tied_back o q (key x) (is_equal _ h))) (run R key q xs) (filter_passes (λ x. is_eq (R q (key x))) xs))
-      (All-weaker (λ x. is_lt (R q (key x)) ≡ true) (λ x. is_lt (R (key x) q) ≡ false)
-      (λ x h. ap is_lt (o.antisymm (key x) q ∙ ap ordering_reverse (is_less _ h))) (above R key q xs) (filter_passes (λ x. is_lt (R q (key x))) xs))
-
-  upto_run : (q : K) (xs : List X) → All (λ x. is_le (R (key x) q) ≡ true) (run R key q xs)
-  upto_run q xs =
-      All-weaker (λ x. is_eq (R q (key x)) ≡ true) (λ x. is_le (R (key x) q) ≡ true)
-      (λ x h. ap is_le (tied_back o q (key x) (is_equal _ h))) (run R key q xs) (filter_passes (λ x. is_eq (R q (key x))) xs)
-
-  past_run : (q : K) (xs : List X) → All (λ x. is_le (R (key x) q) ≡ false) (above R key q xs)
-  past_run q xs =
-      All-weaker (λ x. is_lt (R q (key x)) ≡ true) (λ x. is_le (R (key x) q) ≡ false)
-      (λ x h. ap is_le (o.antisymm (key x) q ∙ ap ordering_reverse (is_less _ h))) (above R key q xs) (filter_passes (λ x. is_lt (R q (key x))) xs)
-
-  -- where the run begins
-  pub start_of_run : (d : X) (q : K) (xs : List X) (i : ℕ) → IsInRuns R key xs → i ≤ length xs
-      → (IsPartitionedBy (λ x. is_lt (R (key x) q)) xs → IsPartitionPoint (λ x. is_lt (R (key x) q) ≡ true) (λ x. is_lt (R (key x) q) ≡ false) xs i)
-      → i ≡ length (below R key q xs)
-  start_of_run d q xs i h le found =
-      parted_at d (λ x. is_lt (R (key x) q)) (below R key q xs) (run R key q xs ++ above R key q xs) xs i (h q) (below_pass q xs) (not_below q xs) le found
-
-  -- the run itself, cut out of the list
-  pub run_cut : (d : X) (q : K) (xs : List X) (i n : ℕ) → IsInRuns R key xs → i ≡ length (below R key q xs)
-      → n ≤ length (take (length xs - i) (drop i xs))
-      → (IsPartitionedBy (λ x. is_le (R (key x) q)) (take (length xs - i) (drop i xs))
-      → IsPartitionPoint (λ x. is_le (R (key x) q) ≡ true) (λ x. is_le (R (key x) q) ≡ false) (take (length xs - i) (drop i xs)) n)
-      → take n (take (length xs - i) (drop i xs)) ≡ run R key q xs
-  run_cut d q xs i n h start le found =
-      let cut : take (length xs - i) (drop i xs) ≡ run R key q xs ++ above R key q xs =
-      take_rest xs i ∙ ap (drop i) (h q) ∙ drop_at (below R key q xs) (run R key q xs ++ above R key q xs) i (sym start) in
-      let long : n ≡ length (run R key q xs) =
-      parted_at d (λ x. is_le (R (key x) q)) (run R key q xs) (above R key q xs) (take (length xs - i) (drop i xs)) n cut
-      (upto_run q xs) (past_run q xs) le found in
-      ap (take n) cut ∙ take_at (run R key q xs) (above R key q xs) n (sym long)
+  -- all of them
+  pub run_linked : {i : ℕ} {slots : List (Option Node)} {start : Label → ℕ} {start' : Point → ℕ} {before : Option ℕ} {at : ℕ}
+      → LinksRun name after run old i slots start start' before at → drop i run ≡ [] → pixels_from slots (start name) ≡ run_behind after run (pixels_of old name)
+  run_linked {slots = slots} {start = start} h done =
+      sym (ap (λ ps. run_behind h.last ps (pixels_from slots (start name))) done ∙ run_none h.last (pixels_from slots (start name))) ∙ h.segment

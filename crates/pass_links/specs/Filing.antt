@@ -1,38 +1,43 @@
--- How the passes are kept: all of them in order of name, a segment's in the order of its list, and
--- all of them again in order of pixel, a pixel's in order of name.
-use Rattle.std.specs.Prelude.{◌≡◌, ℕ, ◌+◌, ◌≤◌, List, map, length, Option}
-use Rattle.std.specs.List.{insert}
+-- How the passes are kept: each is a node of two lists, that of its segment and that of its pixel.
+use Rattle.std.specs.Prelude.{◌≡◌, ℕ, ◌≤◌, false, List, Option}
 use Rattle.grid_core.specs.declared.point.Point.{Point}
-use Rattle.grid_core.specs.Vector.{point_cmp}
-use Rattle.grid_core.specs.Name.{Label, label_cmp}
-use Rattle.pass_links.specs.declared.pass.Pass.{Pass}
-use Rattle.pass_links.specs.Runs.{below, run, IsInRuns}
-use Rattle.pass_links.specs.Passes.{AreLinked, linked_behind, with_name}
+use Rattle.grid_core.specs.Vector.{point_cmp, point_eq}
+use Rattle.grid_core.specs.Name.{Label, label_cmp, label_eq}
+use Rattle.pass_links.specs.declared.node.Node.{Node}
+use Rattle.pass_links.specs.declared.heads.Head.{Head}
+use Rattle.pass_links.specs.Chain.{end, IsFamily}
+use Rattle.pass_links.specs.Node.{along_at, across_at, name_at, pixel_at}
+use Rattle.pass_links.specs.Lists.{pixels_from, names_from}
+use Rattle.pass_links.specs.Heads.{segment_start, pixel_start, Rise}
+use Rattle.pass_links.specs.Passes.{PassLists, pixels_of, names_at, linked_behind, with_name, without_pixel, without_name, AreLinked}
 
--- the pixels of a segment's passes
-abbrev pub pixels_in : List Pass → Label → List Point
-pixels_in xs name = map (λ (x : Pass). x.pixel) (run label_cmp (λ (x : Pass). x.name) name xs)
+-- The lists of the segments begin at `of_segment`, those of the pixels at `of_pixel`, and each node
+-- stands in the list of its segment and in that of its pixel.
+pub record AreFiled (slots : List (Option Node)) (of_segment : Label → ℕ) (of_pixel : Point → ℕ) : Type 0 where
+  pub along : IsFamily label_eq (along_at slots) of_segment (name_at slots) end
+  pub across : IsFamily point_eq (across_at slots) of_pixel (pixel_at slots) end
+  pub linked : AreLinked (λ n. pixels_from slots (of_segment n)) (λ p. names_from slots (of_pixel p))
 
--- the names of a pixel's passes
-abbrev pub names_in : List Pass → Point → List Label
-names_in ys pixel = map (λ (y : Pass). y.name) (run point_cmp (λ (y : Pass). y.pixel) pixel ys)
+-- the lists after a pass was linked
+pub record AreLonger (old new : List (Option Node)) (a a' : Label → ℕ) (b b' : Point → ℕ) (name : Label) (pixel : Point) (after : Option Point) : Type 0 where
+  pub filed : AreFiled new a' b'
+  pub segment : pixels_from new (a' name) ≡ linked_behind after pixel (pixels_from old (a name))
+  pub segments : (n : Label) → label_eq n name ≡ false → pixels_from new (a' n) ≡ pixels_from old (a n)
+  pub here : names_from new (b' pixel) ≡ with_name name (names_from old (b pixel))
+  pub pixels : (p : Point) → point_eq p pixel ≡ false → names_from new (b' p) ≡ names_from old (b p)
 
--- both lists are in order, and they hold the same passes, each once
-pub record IsFiled (xs ys : List Pass) : Type 0 where
-  pub by_segment : IsInRuns label_cmp (λ (x : Pass). x.name) xs
-  pub by_pixel : IsInRuns point_cmp (λ (y : Pass). y.pixel) ys
-  pub linked : AreLinked (pixels_in xs) (names_in ys)
+-- the lists are filed, and `spare` passes have room
+pub record IsFiled (slots : List (Option Node)) (segments : List (Head Label)) (pixels : List (Head Point)) (spare room : ℕ) : Type 0 where
+  pub lists : AreFiled slots (segment_start segments) (pixel_start pixels)
+  pub by_name : Rise label_cmp segments
+  pub by_pixel : Rise point_cmp pixels
+  pub fits : spare ≤ room
 
--- a pass put at i stands right behind `after` among the passes of the segment, or first of them
-pub record IsPlaceBehind (after : Option Point) (name : Label) (xs : List Pass) (i : ℕ) : Type 0 where
-  pub offset : ℕ
-  pub in_run : offset ≤ length (run label_cmp (λ (x : Pass). x.name) name xs)
-  pub at : i ≡ length (below label_cmp (λ (x : Pass). x.name) name xs) + offset
-  pub behind : (pixel : Point) → linked_behind after pixel (pixels_in xs name) ≡ insert (pixels_in xs name) offset pixel
-
--- a pass put at i stands in its place by name among the passes of the pixel
-pub record IsPlaceByName (pixel : Point) (name : Label) (ys : List Pass) (i : ℕ) : Type 0 where
-  pub offset : ℕ
-  pub in_run : offset ≤ length (run point_cmp (λ (y : Pass). y.pixel) pixel ys)
-  pub at : i ≡ length (below point_cmp (λ (y : Pass). y.pixel) pixel ys) + offset
-  pub by_name : with_name name (names_in ys pixel) ≡ insert (names_in ys pixel) offset name
+-- the pass of the segment through the pixel is gone from both lists, and nothing else changes; no
+-- room is lost
+pub record Unlinks (name : Label) (pixel : Point) (old new : PassLists) : Type 0 where
+  pub along : pixels_of new name ≡ without_pixel pixel (pixels_of old name)
+  pub across : names_at new pixel ≡ without_name name (names_at old pixel)
+  pub segments : (n : Label) → label_eq n name ≡ false → pixels_of new n ≡ pixels_of old n
+  pub pixels : (p : Point) → point_eq p pixel ≡ false → names_at new p ≡ names_at old p
+  pub room : old.spare ≤ new.spare

@@ -1,3 +1,10 @@
-pub mod Runs
 pub mod Passes
+pub mod Chain
+pub mod Node
+pub mod Heads
+pub mod Lists
+pub mod Seek
+pub mod Links
 pub mod Filing
+pub mod Store
+pub mod Vacant

@@ -1,15 +1,16 @@
 -- Passes of segments through hot pixels, as contracts see them: each segment has the list of its
 -- pixels, and each pixel the list of the names of its segments.
-use Rattle.std.specs.Prelude.{◌≡◌, ℕ, ℤ, ◌≤◌, Bool, cond, not, List, [], ◌∷◌, ◌++◌, filter, count_by, refl, Option, None, Some}
+use Rattle.std.specs.Prelude.{◌≡◌, ℕ, ℤ, ◌≤◌, Bool, false, cond, not, List, [], ◌∷◌, ◌++◌, filter, count_by, refl, Option, None, Some}
 use Rattle.std.specs.List.{list_any}
 use Rattle.std.specs.List.Sorted.{IsStrictlySortedBy}
+use Rattle.std.specs.declared.cmp.Ordering.{Ordering}
 use Rattle.std.specs.Ordering.{is_lt}
-use Rattle.std.specs.FinMap.{FinMap, code}
+use Rattle.std.specs.Option.{unwrap_or}
+use Rattle.std.specs.FinMap.{FinMap, get, code}
 use Rattle.std.specs.Coded.{Coded, code_by, coded×, coded_ℕ, coded_ℤ, coded_list}
 use Rattle.grid_core.specs.declared.point.Point.{Point}
 use Rattle.grid_core.specs.Vector.{point_cmp, point_eq}
 use Rattle.grid_core.specs.Name.{Label, label_cmp, label_eq}
-use Rattle.pass_links.specs.Runs.{list_at}
 
 -- the lists of the segments, the lists of the pixels, and how many passes can be linked without memory
 pub record PassLists : Type 0 where
@@ -36,6 +37,10 @@ pass_lists_code =
     (λ p. record { segments = p.0; pixels = p.1.0; spare = p.1.1 })
     (λ _. refl)
 
+-- the list of a key; the empty list for what isn't in the map
+abbrev pub list_at : {K V : Type 0} {R : K → K → Ordering} → FinMap R (List V) → K → List V
+list_at m q = unwrap_or (get m q) []
+
 -- the pixels of a segment, in the order of its list
 abbrev pub pixels_of : PassLists → Label → List Point
 pixels_of v name = list_at v.segments name
@@ -61,6 +66,21 @@ put_behind after pixel (p ∷ ps) = cond (point_eq after p) (p ∷ pixel ∷ ps)
 abbrev pub linked_behind : Option Point → Point → List Point → List Point
 linked_behind None pixel ps = pixel ∷ ps
 linked_behind (Some after) pixel ps = put_behind after pixel ps
+
+-- the run of pixels put right behind `after`
+abbrev pub put_run : Point → List Point → List Point → List Point
+put_run after run [] = run
+put_run after run (p ∷ ps) = cond (point_eq after p) (p ∷ (run ++ ps)) (p ∷ put_run after run ps)
+
+-- the run put right behind `after`, or in front where there is none
+abbrev pub run_behind : Option Point → List Point → List Point → List Point
+run_behind None run ps = run ++ ps
+run_behind (Some after) run ps = put_run after run ps
+
+-- none of the run's pixels stands in the list, and no two of them are one
+abbrev pub AreFresh : List Point → List Point → Type 0
+AreFresh [] ps = Unit {0}
+AreFresh (q ∷ run) ps = (has_pixel ps q ≡ false) × (has_pixel run q ≡ false) × AreFresh run ps
 
 -- the name put into its place by the order of names
 abbrev pub with_name : Label → List Label → List Label

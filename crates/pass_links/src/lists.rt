@@ -1,25 +1,30 @@
 //! The walks along a segment's list and across a pixel's list.
 ghost use Rattle.std.specs.Iterator.{YieldsFirst, item_count};
 
-use crate::pass::Pass;
+use crate::node::Node;
+use crate::store::Store;
 use grid_core::{Name, Point};
 use std::marker::Model;
 
 /// The pixels of a segment that are still to come, in the order of its list.
 #[derive(Drop)]
 pub struct Along<'a> {
-    pub(crate) rest: &'a [Pass],
+    pub(crate) nodes: &'a Store<Node>,
+    /// The key of the node that comes next, or `END`.
+    pub(crate) at: u32,
 }
 
 impl<'a> Model for Along<'a> {
-    ghost use Rattle.std.specs.Prelude.{List, map};
+    ghost use Rattle.std.specs.Prelude.{List};
     ghost use Rattle.grid_core.specs.declared.point.Point.{Point};
 
     ghost Value = { List Point };
 
-    ghost use Rattle.pass_links.specs.declared.pass.Pass.{Pass};
+    ghost use Rattle.pass_links.specs.Lists.{IsWalkAlong, pixels_from};
 
-    ghost view = { λ it. map (λ (x : Pass). x.pixel) it.rest.now };
+    ghost view = { λ it. pixels_from it.nodes.now.slots it.at };
+
+    ghost invariant = { λ it. IsWalkAlong it.nodes.now.slots it.at };
 }
 
 impl<'a> Iterator for Along<'a> {
@@ -30,27 +35,31 @@ impl<'a> Iterator for Along<'a> {
     ghost remaining = { item_count (λ rest. rest) };
 
     fn next(&mut self) -> Option<Point> {
-        let (first, others) = self.rest.split_first()?;
-        self.rest = others;
-        Some(first.pixel)
+        let node = self.nodes.get(self.at)?;
+        self.at = node.along;
+        Some(node.pixel)
     }
 }
 
 /// The names of the segments through a pixel that are still to come, in order.
 #[derive(Drop)]
 pub struct Across<'a> {
-    pub(crate) rest: &'a [Pass],
+    pub(crate) nodes: &'a Store<Node>,
+    /// The key of the node that comes next, or `END`.
+    pub(crate) at: u32,
 }
 
 impl<'a> Model for Across<'a> {
-    ghost use Rattle.std.specs.Prelude.{List, map};
+    ghost use Rattle.std.specs.Prelude.{List};
     ghost use Rattle.grid_core.specs.Name.{Label};
 
     ghost Value = { List Label };
 
-    ghost use Rattle.pass_links.specs.declared.pass.Pass.{Pass};
+    ghost use Rattle.pass_links.specs.Lists.{IsWalkAcross, names_from};
 
-    ghost view = { λ it. map (λ (x : Pass). x.name) it.rest.now };
+    ghost view = { λ it. names_from it.nodes.now.slots it.at };
+
+    ghost invariant = { λ it. IsWalkAcross it.nodes.now.slots it.at };
 }
 
 impl<'a> Iterator for Across<'a> {
@@ -61,8 +70,8 @@ impl<'a> Iterator for Across<'a> {
     ghost remaining = { item_count (λ rest. rest) };
 
     fn next(&mut self) -> Option<Name> {
-        let (first, others) = self.rest.split_first()?;
-        self.rest = others;
-        Some(first.name)
+        let node = self.nodes.get(self.at)?;
+        self.at = node.across;
+        Some(node.name)
     }
 }

@@ -1,14 +1,19 @@
 //! The passes, and what links and unlinks them.
-ghost use Rattle.std.specs.Prelude.{◌≡◌, ◌+◌, ◌≤◌, false, [], OnOk, IfOk, IfSome, IsTrue};
+ghost use Rattle.std.specs.Prelude.{◌≡◌, ◌+◌, ◌≤◌, true, false, length, [], OnOk, IfOk, IfSome, IsTrue};
 ghost use Rattle.grid_core.specs.Name.{Label, label_eq};
 ghost use Rattle.grid_core.specs.Vector.{point_eq};
 ghost use Rattle.grid_core.specs.declared.point.Point.{Point};
 ghost use Rattle.pass_links.specs.Passes.{pixels_of, names_at, has_pixel, AreLinked};
-ghost use Rattle.pass_links.specs.Passes.{linked_behind, with_name, without_pixel, without_name};
+ghost use Rattle.pass_links.specs.Passes.{linked_behind, run_behind, AreFresh, with_name, without_pixel, without_name};
+ghost use Rattle.pass_links.specs.Filing.{Unlinks};
 
+use crate::heads::{Head, first};
+use crate::links::{link_at, point_across, point_along};
 use crate::lists::{Across, Along};
-use crate::pass::{Pass, copied, drop_pixel, drop_segment};
-use crate::places::{any_through, pixel_run, place_in_pixel, place_in_segment, segment_run};
+use crate::node::Node;
+use crate::room::{copied, room_left};
+use crate::seek::{Seek, before_along, seek_across, seek_behind};
+use crate::store::Store;
 use grid_core::{Memory, Name, Point};
 use std::alloc::Global;
 use std::marker::Model;
@@ -18,10 +23,14 @@ use std::marker::Model;
 /// pixel stands in the name's list.
 #[derive(Drop)]
 pub struct Passes {
-    /// In order of name; the passes of one segment in the order of its list.
-    by_segment: Vec<Pass>,
-    /// The same passes in order of pixel; those of one pixel in order of name.
-    by_pixel: Vec<Pass>,
+    /// Each pass once: a node of its segment's list and of its pixel's list.
+    nodes: Store<Node>,
+    /// Where the lists of segments begin, by rising name.
+    segments: Vec<Head<Name>>,
+    /// Where the lists of pixels begin, by rising pixel.
+    pixels: Vec<Head<Point>>,
+    /// How many passes are sure of room for their node and for two heads.
+    spare: usize,
 }
 
 impl Model for Passes {
@@ -35,20 +44,20 @@ impl Model for Passes {
 
     ghost coded = { pass_lists_code };
 
-    ghost use Rattle.pass_links.specs.declared.pass.Pass.{Pass};
-    ghost use Rattle.pass_links.specs.Runs.{lists_of};
+    ghost use Rattle.pass_links.specs.Lists.{pixels_from, names_from};
+    ghost use Rattle.pass_links.specs.Heads.{lists_of_heads};
     ghost use Rattle.pass_links.specs.Filing.{IsFiled};
 
     ghost view = { λ p. record {
-      segments = lists_of label_cmp (λ (x : Pass). x.name) (λ (x : Pass). x.pixel)
-          p.by_segment.items;
-      pixels = lists_of point_cmp (λ (x : Pass). x.pixel) (λ (x : Pass). x.name) p.by_pixel.items;
-      spare = min
-          (vec_capacity p.by_segment - vec_len p.by_segment)
-          (vec_capacity p.by_pixel - vec_len p.by_pixel);
+      segments = lists_of_heads label_cmp (pixels_from p.nodes.slots) p.segments.items;
+      pixels = lists_of_heads point_cmp (names_from p.nodes.slots) p.pixels.items;
+      spare = p.spare;
     } };
 
-    ghost invariant = { λ p. IsFiled p.by_segment.items p.by_pixel.items };
+    ghost invariant = { λ p. IsFiled p.nodes.slots p.segments.items p.pixels.items p.spare
+        (min p.nodes.room
+        (min (vec_capacity p.segments - vec_len p.segments)
+        (vec_capacity p.pixels - vec_len p.pixels))) };
 }
 
 impl Passes {
@@ -58,8 +67,10 @@ impl Passes {
         ensures pixels { (p : Point) → names_at result p ≡ [] }
     {
         Passes {
-            by_segment: Vec::new(alloc),
-            by_pixel: Vec::new(alloc),
+            nodes: Store::new(alloc),
+            segments: Vec::new(alloc),
+            pixels: Vec::new(alloc),
+            spare: 0,
         }
     }
 
@@ -71,8 +82,10 @@ impl Passes {
         ensures room { OnOk result (more ≤ self.new.spare) }
         ensures spare { self.old.spare ≤ self.new.spare }
     {
-        self.by_segment.reserve(more)?;
-        self.by_pixel.reserve(more)?;
+        self.nodes.reserve(more)?;
+        self.segments.reserve(more)?;
+        self.pixels.reserve(more)?;
+        self.spare = room_left(&self.nodes, &self.segments, &self.pixels);
         Ok(())
     }
 
@@ -80,16 +93,18 @@ impl Passes {
     pub fn spare(&self) -> usize
         ensures { result ≡ self.now.spare }
     {
-        let by_segment = self.by_segment.capacity() - self.by_segment.len();
-        let by_pixel = self.by_pixel.capacity() - self.by_pixel.len();
-        by_segment.min(by_pixel)
+        self.spare
     }
 
     /// Whether the pass of this segment through this pixel is linked.
     pub fn has(&self, name: Name, pixel: Point) -> bool
         ensures { result ≡ has_pixel (pixels_of self.now name) pixel }
     {
-        any_through(segment_run(&self.by_segment, name), pixel)
+        let place = seek_across(&self.nodes, &self.pixels, pixel, name);
+        match self.nodes.get(place.at) {
+            Some(node) => node.name == name,
+            None => false,
+        }
     }
 
     /// The pixels of this segment, in the order of its list.
@@ -98,7 +113,8 @@ impl Passes {
         ensures kept { AreLinked (pixels_of self.now) (names_at self.now) }
     {
         Along {
-            rest: segment_run(&self.by_segment, name),
+            nodes: &self.nodes,
+            at: first(&self.segments, name),
         }
     }
 
@@ -108,7 +124,8 @@ impl Passes {
         ensures kept { AreLinked (pixels_of self.now) (names_at self.now) }
     {
         Across {
-            rest: pixel_run(&self.by_pixel, pixel),
+            nodes: &self.nodes,
+            at: first(&self.pixels, pixel),
         }
     }
 
@@ -128,12 +145,51 @@ impl Passes {
             → names_at self.new p ≡ names_at self.old p }
         ensures spare { self.new.spare + 1 ≡ self.old.spare }
     {
-        let place = place_in_segment(&self.by_segment, name, after);
-        let linked = self.by_segment.insert(place, Pass { name, pixel });
-        prove!(linked.is_ok());
-        let place = place_in_pixel(&self.by_pixel, pixel, name);
-        let linked = self.by_pixel.insert(place, Pass { name, pixel });
-        prove!(linked.is_ok());
+        let place = seek_behind(&self.nodes, &self.segments, &self.pixels, name, after);
+        link_at(
+            &mut self.nodes,
+            &mut self.segments,
+            &mut self.pixels,
+            name,
+            pixel,
+            place,
+        );
+        self.spare -= 1;
+    }
+
+    /// Links the passes of this segment through these pixels: in the segment's list one behind the
+    /// other, right behind `after`, or in front where there is none; in the pixels' lists by the
+    /// order of names. Takes no memory.
+    pub fn link_run(&mut self, name: Name, after: Option<Point>, run: &[Point])
+        requires room { length run.now ≤ self.old.spare }
+        requires behind { IfSome after (λ a. IsTrue (has_pixel (pixels_of self.old name) a)) }
+        requires fresh { AreFresh run.now (pixels_of self.old name) }
+        ensures segment { pixels_of self.new name
+            ≡ run_behind after run.now (pixels_of self.old name) }
+        ensures segments { (n : Label) → label_eq n name ≡ false
+            → pixels_of self.new n ≡ pixels_of self.old n }
+        ensures run { (p : Point) → has_pixel run.now p ≡ true
+            → names_at self.new p ≡ with_name name (names_at self.old p) }
+        ensures pixels { (p : Point) → has_pixel run.now p ≡ false
+            → names_at self.new p ≡ names_at self.old p }
+        ensures spare { self.new.spare + length run.now ≡ self.old.spare }
+    {
+        let mut place = seek_behind(&self.nodes, &self.segments, &self.pixels, name, after);
+        for pixel in run {
+            let key = link_at(
+                &mut self.nodes,
+                &mut self.segments,
+                &mut self.pixels,
+                name,
+                *pixel,
+                place,
+            );
+            place = Seek {
+                before: Some(key),
+                at: place.at,
+            };
+        }
+        self.spare -= run.len();
     }
 
     /// Unlinks all passes through this pixel. All others stay in their order. Takes no memory.
@@ -145,8 +201,9 @@ impl Passes {
             → names_at self.new p ≡ names_at self.old p }
         ensures spare { self.old.spare ≤ self.new.spare }
     {
-        drop_pixel(&mut self.by_segment, pixel);
-        drop_pixel(&mut self.by_pixel, pixel);
+        while let Some(name) = self.across(pixel).next() {
+            self.unlink(name, pixel);
+        }
     }
 
     /// Unlinks all passes of this segment. All others stay in their order. Takes no memory.
@@ -158,8 +215,36 @@ impl Passes {
             → names_at self.new p ≡ without_name name (names_at self.old p) }
         ensures spare { self.old.spare ≤ self.new.spare }
     {
-        drop_segment(&mut self.by_segment, name);
-        drop_segment(&mut self.by_pixel, name);
+        while let Some(pixel) = self.along(name).next() {
+            self.unlink(name, pixel);
+        }
+    }
+
+    /// Unlinks the pass of this segment through this pixel. All others stay in their order.
+    /// Takes no memory.
+    fn unlink(&mut self, name: Name, pixel: Point)
+        requires { IsTrue (has_pixel (pixels_of self.old name) pixel) }
+        ensures { Unlinks name pixel self.old self.new }
+    {
+        let across = seek_across(&self.nodes, &self.pixels, pixel, name);
+        let before = before_along(&self.nodes, &self.segments, name, across.at);
+        let node = *self.nodes.value(across.at);
+        self.nodes.remove(across.at);
+        point_along(
+            &mut self.nodes,
+            &mut self.segments,
+            name,
+            before,
+            node.along,
+        );
+        point_across(
+            &mut self.nodes,
+            &mut self.pixels,
+            pixel,
+            across.before,
+            node.across,
+        );
+        self.spare = room_left(&self.nodes, &self.segments, &self.pixels);
     }
 
     /// The same lists.
@@ -176,11 +261,15 @@ impl Passes {
         ensures pixels { IfOk result (λ p. p.pixels ≡ self.now.pixels) }
         ensures room { IfOk result (λ p. more ≤ p.spare) }
     {
-        let by_segment = copied(&self.by_segment, more)?;
-        let by_pixel = copied(&self.by_pixel, more)?;
+        let nodes = self.nodes.copy_with_room(more)?;
+        let segments = copied(&self.segments, more)?;
+        let pixels = copied(&self.pixels, more)?;
+        let spare = room_left(&nodes, &segments, &pixels);
         Ok(Passes {
-            by_segment,
-            by_pixel,
+            nodes,
+            segments,
+            pixels,
+            spare,
         })
     }
 }

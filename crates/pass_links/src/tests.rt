@@ -11,6 +11,8 @@ const B: Point = Point { x: 3, y: 1 };
 
 const C: Point = Point { x: 5, y: 2 };
 
+const D: Point = Point { x: 8, y: 3 };
+
 /// The points of a segment's list, as they are walked.
 fn walk(alloc: Global, passes: &Passes, name: Name) -> Result<Vec<Point>, AllocError> {
     let mut points = Vec::new(alloc);
@@ -53,6 +55,24 @@ fn link_three_unlink_a_pixel_unlink_a_segment(rt: HostRuntime) -> Result<(), Fai
     passes.unlink_segment(name);
     assert!(rt; passes.along(name).next().is_none());
     assert!(rt; passes.across(A).next().is_none() && passes.across(C).next().is_none());
+    Ok(())
+}
+
+#[test]
+fn a_run_in_front_and_a_run_behind_a_pixel(rt: HostRuntime) -> Result<(), Fail> {
+    let name = Name::new(1, 1).ok_or("1.1 is a name")?;
+    let mut passes = Passes::open(rt.alloc());
+    passes.reserve(4)?;
+    assert!(rt; passes.spare() >= 4 && !passes.has(name, A) && !passes.has(name, D));
+    passes.link_run(name, None, [A, D].as_slice());
+    assert!(rt; passes.spare() >= 2 && passes.has(name, A));
+    assert!(rt; !passes.has(name, B) && !passes.has(name, C));
+    passes.link_run(name, Some(A), [B, C].as_slice());
+    assert_eq!(rt;
+        walk(rt.alloc(), &passes, name)?.as_slice(),
+        [A, B, C, D].as_slice()
+    );
+    assert!(rt; passes.across(C).next() == Some(name));
     Ok(())
 }
 

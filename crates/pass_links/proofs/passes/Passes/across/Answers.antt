@@ -1,14 +1,27 @@
-use Rattle.std.proofs.Common.{ap, sym, ◌∙◌, map}
-use Rattle.pass_links.specs.declared.pass.Pass.{Pass}
-use Rattle.pass_links.specs.Filing.{names_in}
-use Rattle.pass_links.proofs.FilingLaws.{seen_names, seen_linked}
+use Rattle.std.proofs.Common.{◌≡◌, ap, sym, ◌∙◌, subst}
+use Rattle.pass_links.specs.Lists.{names_from, IsWalkAcross}
+use Rattle.pass_links.specs.Heads.{segment_start, pixel_start}
+use Rattle.pass_links.proofs.SeekLaws.{free_of}
+use Rattle.pass_links.proofs.SeenLaws.{seen_names, seen_linked}
 use Rattle.pass_links.proofs.passes.Passes.across.Goals as goal
+use Rattle.pass_links.proofs.passes.Passes.across.Goals.{After-first}
+
+begins : (c : After-first) → c.first.result ≡ pixel_start c.self.inside.pixels.items c.args.pixel
+begins c = c.first.ensures ∙ ap (λ l. pixel_start l c.args.pixel) c.deref.ensures.value
+
+pub invariant_of-result : goal.invariant_of-result
+invariant_of-result c =
+    subst (IsWalkAcross c.self.inside.nodes.slots) (sym (begins c))
+    (record {
+      free = free_of c.self.inside.nodes.slots (segment_start c.self.inside.segments.items) c.self.invariant.lists.along;
+      whole = c.self.invariant.lists.across.whole c.args.pixel;
+    })
 
 pub returns-clause-list : goal.returns-clause-list
 returns-clause-list c =
-    ap (map (λ (x : Pass). x.name)) c.pixel_run.ensures
-    ∙ ap (λ ys. names_in ys c.args.pixel) c.deref.ensures.value
-    ∙ sym (seen_names c.args.self.now c.self.inside.by_segment.items c.self.inside.by_pixel.items _ c.self.view_is c.args.pixel)
+    ap (names_from c.self.inside.nodes.slots) (begins c)
+    ∙ sym (seen_names c.self.inside.nodes.slots c.self.inside.segments.items c.self.inside.pixels.items c.args.self.now _ c.self.view_is c.args.pixel)
 
 pub returns-clause-kept : goal.returns-clause-kept
-returns-clause-kept c = seen_linked c.args.self.now c.self.inside.by_segment.items c.self.inside.by_pixel.items _ c.self.view_is c.self.invariant
+returns-clause-kept c =
+    seen_linked c.self.inside.nodes.slots c.self.inside.segments.items c.self.inside.pixels.items c.args.self.now _ c.self.view_is c.self.invariant.lists

@@ -1,14 +1,27 @@
-use Rattle.std.proofs.Common.{ap, sym, ◌∙◌, map}
-use Rattle.pass_links.specs.declared.pass.Pass.{Pass}
-use Rattle.pass_links.specs.Filing.{pixels_in}
-use Rattle.pass_links.proofs.FilingLaws.{seen_pixels, seen_linked}
+use Rattle.std.proofs.Common.{◌≡◌, ap, sym, ◌∙◌, subst}
+use Rattle.pass_links.specs.Lists.{pixels_from, IsWalkAlong}
+use Rattle.pass_links.specs.Heads.{segment_start}
+use Rattle.pass_links.proofs.SeekLaws.{free_of}
+use Rattle.pass_links.proofs.SeenLaws.{seen_pixels, seen_linked}
 use Rattle.pass_links.proofs.passes.Passes.along.Goals as goal
+use Rattle.pass_links.proofs.passes.Passes.along.Goals.{After-first}
+
+begins : (c : After-first) → c.first.result ≡ segment_start c.self.inside.segments.items c.args.name
+begins c = c.first.ensures ∙ ap (λ l. segment_start l c.args.name) c.deref.ensures.value
+
+pub invariant_of-result : goal.invariant_of-result
+invariant_of-result c =
+    subst (IsWalkAlong c.self.inside.nodes.slots) (sym (begins c))
+    (record {
+      free = free_of c.self.inside.nodes.slots (segment_start c.self.inside.segments.items) c.self.invariant.lists.along;
+      whole = c.self.invariant.lists.along.whole c.args.name;
+    })
 
 pub returns-clause-list : goal.returns-clause-list
 returns-clause-list c =
-    ap (map (λ (x : Pass). x.pixel)) c.segment_run.ensures
-    ∙ ap (λ xs. pixels_in xs c.args.name) c.deref.ensures.value
-    ∙ sym (seen_pixels c.args.self.now c.self.inside.by_segment.items c.self.inside.by_pixel.items _ c.self.view_is c.args.name)
+    ap (pixels_from c.self.inside.nodes.slots) (begins c)
+    ∙ sym (seen_pixels c.self.inside.nodes.slots c.self.inside.segments.items c.self.inside.pixels.items c.args.self.now _ c.self.view_is c.args.name)
 
 pub returns-clause-kept : goal.returns-clause-kept
-returns-clause-kept c = seen_linked c.args.self.now c.self.inside.by_segment.items c.self.inside.by_pixel.items _ c.self.view_is c.self.invariant
+returns-clause-kept c =
+    seen_linked c.self.inside.nodes.slots c.self.inside.segments.items c.self.inside.pixels.items c.args.self.now _ c.self.view_is c.self.invariant.lists

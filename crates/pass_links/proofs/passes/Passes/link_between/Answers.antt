@@ -1,72 +1,83 @@
-use Rattle.std.proofs.Common.{rules, ◌≡◌, refl, ap, sym, ◌∙◌, subst, false, true}
-use Rattle.std.specs.List.{insert}
-use Rattle.std.specs.Result.{is_ok}
-use Rattle.pass_links.specs.Passes.{has_pixel, has_name, with_name, linked_behind}
-use Rattle.pass_links.specs.Filing.{pixels_in, names_in, IsPlaceBehind, IsPlaceByName}
-use Rattle.pass_links.specs.declared.pass.Pass.{Pass}
-use Rattle.pass_links.proofs.FilingLaws.{filed_as, filed_more, taken, seen, seen_pixels, seen_names, segment_linked, segments_beside, pixel_linked, pixels_beside}
+-- What is linked among the nodes is what contracts see linked.
+use Rattle.std.proofs.Common.{◌≡◌, ap, sym, ◌∙◌, subst, refl, arith, true}
+use Rattle.std.specs.Prelude.{IfSome}
+use Rattle.grid_core.specs.Name.{Label}
+use Rattle.grid_core.specs.declared.point.Point.{Point}
+use Rattle.pass_links.specs.Passes.{PassLists, pixels_of, names_at, has_pixel, linked_behind, with_name}
+use Rattle.pass_links.specs.Node.{name_at, along_at}
+use Rattle.pass_links.specs.Heads.{segment_start, pixel_start}
+use Rattle.pass_links.specs.Lists.{pixels_from, names_from}
+use Rattle.pass_links.specs.Seek.{IsPlace}
+use Rattle.pass_links.specs.Filing.{AreLonger}
+use Rattle.pass_links.proofs.SeenLaws.{seen, seen_pixels, seen_names}
 use Rattle.pass_links.proofs.passes.Passes.link_between.Goals as goal
+use Rattle.pass_links.proofs.passes.Passes.link_between.Goals.{After-link_at}
 
-pub place_in_pixel-place-requires-clause-fresh : goal.place_in_pixel-place-requires-clause-fresh
-place_in_pixel-place-requires-clause-fresh c =
-    ap (λ ys. has_name (names_in ys c.args.pixel) c.args.name) c.deref-2.ensures.value
-    ∙ sym (c.self.invariant.linked.agree c.args.name c.args.pixel)
-    ∙ ap (λ ps. has_pixel ps c.args.pixel) (sym (seen_pixels c.args.self.now c.self.inside.by_segment.items c.self.inside.by_pixel.items _ c.self.view_is c.args.name))
+pub seek_behind-place-requires-clause-behind : goal.seek_behind-place-requires-clause-behind
+seek_behind-place-requires-clause-behind c =
+    subst (λ ps. IfSome c.args.after (λ a. has_pixel ps a ≡ true))
+    (seen_pixels c.self.inside.nodes.slots c.self.inside.segments.items c.self.inside.pixels.items c.args.self.now _ c.self.view_is c.args.name
+    ∙ ap (λ hs. pixels_from c.self.inside.nodes.slots (segment_start hs c.args.name)) (sym c.deref.ensures.value))
+    c.requires.behind
+
+pub link_at-requires-clause-place : goal.link_at-requires-clause-place
+link_at-requires-clause-place c =
+    subst (λ hs. IsPlace (along_at c.self.inside.nodes.slots) (segment_start hs) (name_at c.self.inside.nodes.slots) c.args.name
+    c.seek_behind-place.result.before c.seek_behind-place.result.at) c.deref.ensures.value c.seek_behind-place.ensures.place
+
+pub link_at-requires-clause-fresh : goal.link_at-requires-clause-fresh
+link_at-requires-clause-fresh c =
+    ap (λ ps. has_pixel ps c.args.pixel)
+    (sym (seen_pixels c.self.inside.nodes.slots c.self.inside.segments.items c.self.inside.pixels.items c.args.self.now _ c.self.view_is c.args.name))
     ∙ c.requires.fresh
 
-pub invariant_of-self : goal.invariant_of-self
-invariant_of-self c =
-    let pass : Pass = record { name = c.args.name; pixel = c.args.pixel } in
-    let one : is_ok c.insert-linked.result ≡ true = search rules in
-    let two : is_ok c.insert-linked-2.result ≡ true = search rules in
-    let xs : c.insert-linked.new.self.items ≡ insert c.self.inside.by_segment.items c.place_in_segment-place.result pass =
-    taken (is_ok c.insert-linked.result) _ _ _ one c.insert-linked.ensures.items in
-    let ys : c.insert-linked-2.new.self.items ≡ insert c.self.inside.by_pixel.items c.place_in_pixel-place.result pass =
-    taken (is_ok c.insert-linked-2.result) _ _ _ two c.insert-linked-2.ensures.items in
-    let first : IsPlaceBehind c.args.after c.args.name c.self.inside.by_segment.items c.place_in_segment-place.result =
-    subst (λ l. IsPlaceBehind c.args.after c.args.name l c.place_in_segment-place.result) c.deref.ensures.value c.place_in_segment-place.ensures.place in
-    let second : IsPlaceByName c.args.pixel c.args.name c.self.inside.by_pixel.items c.place_in_pixel-place.result =
-    subst (λ l. IsPlaceByName c.args.pixel c.args.name l c.place_in_pixel-place.result) c.deref-2.ensures.value c.place_in_pixel-place.ensures.place in
-    let fresh : has_pixel (pixels_in c.self.inside.by_segment.items c.args.name) c.args.pixel ≡ false =
-    ap (λ ps. has_pixel ps c.args.pixel) (sym (seen_pixels c.args.self.now c.self.inside.by_segment.items c.self.inside.by_pixel.items _ c.self.view_is c.args.name))
-    ∙ c.requires.fresh in
-    filed_as xs ys
-    (filed_more c.args.after pass c.self.inside.by_segment.items c.self.inside.by_pixel.items c.place_in_segment-place.result c.place_in_pixel-place.result
-    c.self.invariant first second fresh)
+-- the lists with the pass
+longer : (c : After-link_at) → AreLonger c.self.inside.nodes.slots c.link_at.new.nodes.slots
+    (segment_start c.self.inside.segments.items) (segment_start c.link_at.new.segments.items)
+    (pixel_start c.self.inside.pixels.items) (pixel_start c.link_at.new.pixels.items) c.args.name c.args.pixel c.args.after
+longer c = c.link_at.ensures.lists c.args.after c.seek_behind-place.ensures.through
 
-pub returns : goal.returns
-returns c =
-    let pass : Pass = record { name = c.args.name; pixel = c.args.pixel } in
-    let one : is_ok c.insert-linked.result ≡ true = search rules in
-    let two : is_ok c.insert-linked-2.result ≡ true = search rules in
-    let xs : c.insert-linked.new.self.items ≡ insert c.self.inside.by_segment.items c.place_in_segment-place.result pass =
-    taken (is_ok c.insert-linked.result) _ _ _ one c.insert-linked.ensures.items in
-    let ys : c.insert-linked-2.new.self.items ≡ insert c.self.inside.by_pixel.items c.place_in_pixel-place.result pass =
-    taken (is_ok c.insert-linked-2.result) _ _ _ two c.insert-linked-2.ensures.items in
-    let first : IsPlaceBehind c.args.after c.args.name c.self.inside.by_segment.items c.place_in_segment-place.result =
-    subst (λ l. IsPlaceBehind c.args.after c.args.name l c.place_in_segment-place.result) c.deref.ensures.value c.place_in_segment-place.ensures.place in
-    let second : IsPlaceByName c.args.pixel c.args.name c.self.inside.by_pixel.items c.place_in_pixel-place.result =
-    subst (λ l. IsPlaceByName c.args.pixel c.args.name l c.place_in_pixel-place.result) c.deref-2.ensures.value c.place_in_pixel-place.ensures.place in
-    let now_pixels = seen_pixels (seen c.insert-linked.new.self.items c.insert-linked-2.new.self.items 0) c.insert-linked.new.self.items c.insert-linked-2.new.self.items 0 refl in
-    let now_names = seen_names (seen c.insert-linked.new.self.items c.insert-linked-2.new.self.items 0) c.insert-linked.new.self.items c.insert-linked-2.new.self.items 0 refl in
-    let old_pixels = seen_pixels c.args.self.now c.self.inside.by_segment.items c.self.inside.by_pixel.items _ c.self.view_is in
-    let old_names = seen_names c.args.self.now c.self.inside.by_segment.items c.self.inside.by_pixel.items _ c.self.view_is in
-    record {
-      segment =
-          now_pixels c.args.name ∙ ap (λ l. pixels_in l c.args.name) xs
-          ∙ segment_linked c.args.after pass c.self.inside.by_segment.items c.place_in_segment-place.result c.self.invariant.by_segment first
-          ∙ ap (linked_behind c.args.after c.args.pixel) (sym (old_pixels c.args.name));
-      pixel =
-          now_names c.args.pixel ∙ ap (λ l. names_in l c.args.pixel) ys
-          ∙ pixel_linked pass c.self.inside.by_pixel.items c.place_in_pixel-place.result c.self.invariant.by_pixel second
-          ∙ ap (with_name c.args.name) (sym (old_names c.args.pixel));
-      segments = λ n apart.
-          now_pixels n ∙ ap (λ l. pixels_in l n) xs
-          ∙ segments_beside c.args.after pass c.self.inside.by_segment.items c.place_in_segment-place.result c.self.invariant.by_segment first n apart
-          ∙ sym (old_pixels n);
-      pixels = λ p apart.
-          now_names p ∙ ap (λ l. names_in l p) ys
-          ∙ pixels_beside pass c.self.inside.by_pixel.items c.place_in_pixel-place.result c.self.invariant.by_pixel second p apart
-          ∙ sym (old_names p);
-      spare = search rules;
-    }
+-- the lists that were there
+was : (c : After-link_at) (n : Label) → pixels_of c.args.self.now n ≡ pixels_from c.self.inside.nodes.slots (segment_start c.self.inside.segments.items n)
+was c = seen_pixels c.self.inside.nodes.slots c.self.inside.segments.items c.self.inside.pixels.items c.args.self.now _ c.self.view_is
+
+had : (c : After-link_at) (p : Point) → names_at c.args.self.now p ≡ names_from c.self.inside.nodes.slots (pixel_start c.self.inside.pixels.items p)
+had c = seen_names c.self.inside.nodes.slots c.self.inside.segments.items c.self.inside.pixels.items c.args.self.now _ c.self.view_is
+
+-- those that are there now
+abbrev now : After-link_at → PassLists
+now c = seen c.link_at.new.nodes.slots c.link_at.new.segments.items c.link_at.new.pixels.items 0
+
+is : (c : After-link_at) (n : Label) → pixels_of (now c) n ≡ pixels_from c.link_at.new.nodes.slots (segment_start c.link_at.new.segments.items n)
+is c = seen_pixels c.link_at.new.nodes.slots c.link_at.new.segments.items c.link_at.new.pixels.items (now c) 0 refl
+
+has : (c : After-link_at) (p : Point) → names_at (now c) p ≡ names_from c.link_at.new.nodes.slots (pixel_start c.link_at.new.pixels.items p)
+has c = seen_names c.link_at.new.nodes.slots c.link_at.new.segments.items c.link_at.new.pixels.items (now c) 0 refl
+
+pub invariant_of-self : goal.invariant_of-self
+invariant_of-self c = record {
+  lists = (longer (goal.at.invariant_of-self c).After-link_at).filed;
+  by_name = c.link_at.ensures.by_name;
+  by_pixel = c.link_at.ensures.by_pixel;
+  fits = omega arith;
+}
+
+pub returns-clause-segment : goal.returns-clause-segment
+returns-clause-segment c =
+    let t = (goal.at.returns-clause-segment c).After-link_at in
+    is t c.args.name ∙ (longer t).segment ∙ ap (linked_behind c.args.after c.args.pixel) (sym (was t c.args.name))
+
+pub returns-clause-pixel : goal.returns-clause-pixel
+returns-clause-pixel c =
+    let t = (goal.at.returns-clause-pixel c).After-link_at in
+    has t c.args.pixel ∙ (longer t).here ∙ ap (with_name c.args.name) (sym (had t c.args.pixel))
+
+pub returns-clause-segments : goal.returns-clause-segments
+returns-clause-segments c =
+    let t = (goal.at.returns-clause-segments c).After-link_at in
+    λ n apart. is t n ∙ (longer t).segments n apart ∙ sym (was t n)
+
+pub returns-clause-pixels : goal.returns-clause-pixels
+returns-clause-pixels c =
+    let t = (goal.at.returns-clause-pixels c).After-link_at in
+    λ p apart. has t p ∙ (longer t).pixels p apart ∙ sym (had t p)
