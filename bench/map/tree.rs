@@ -1,6 +1,6 @@
 //! The tree of `radix_map` in plain Rust, with the same layout and the same walks, and std's
 //! `BTreeMap` beside it: it takes the words of `bench_map`, and for `get` the word `btree` more. It
-//! prints the same counts.
+//! prints the same counts. It notes no edits, since want of memory ends it.
 
 use std::collections::BTreeMap;
 use std::sync::Arc;
