@@ -1,10 +1,10 @@
 -- Heads in order: what a search among them finds, and what they say after one is set, put in or
 -- dropped. A list of heads is read in three parts: those of lesser keys, the one of q, and those of
 -- greater keys; each law runs along the lesser ones.
-use Rattle.std.proofs.Common.{◌≡◌, refl, ap, sym, ◌∙◌, subst, ℕ, zero, suc, ◌+◌, ◌<◌, ◌≤◌, arith, Bool, true, false, cond, List, [], ◌∷◌, ◌++◌, map, length, get_or, set, take, drop, Ordering, Less, Equal, Greater, is_lt, is_eq, true≢false, Some, Result, Ok, Err, MatchResult, OnErr}
+use Rattle.std.proofs.Common.{◌≡◌, refl, ap, sym, ◌∙◌, subst, ℕ, zero, suc, ◌+◌, ◌<◌, ◌≤◌, arith, Bool, true, false, cond, List, [], ◌∷◌, ◌++◌, map, length, get_or, set, take, drop, Ordering, Less, Equal, Greater, is_lt, is_eq, true≢false, Some}
 use Rattle.std.specs.Cmp.{IsTotalOrder}
 use Rattle.std.specs.List.{insert, remove, AllByRecursion, AllWithin, HoldsAt}
-use Rattle.std.specs.List.Sorted.{IsStrictlySortedBy, IsNonDecreasingBy, IsPartitionedBy, IsPartitionPoint, IsSearchInRange}
+use Rattle.std.specs.List.Sorted.{IsStrictlySortedBy, IsNonDecreasingBy, IsPartitionedBy, IsPartitionPoint}
 use Rattle.std.specs.Ordering.{ordering_reverse, ordering_index, eq_by_cmp}
 use Rattle.std.specs.Option.{unwrap_or}
 use Rattle.std.specs.FinMap.{get, get-empty, get-insert}
@@ -90,20 +90,6 @@ module _ {K : Type 0} {R : K → K → Ordering} (o : IsTotalOrder R) where
       by Less t = e
       by Equal t = sym (ap (λ b. cond b x a) (apart (R p q) (o.congr p l q t ∙ less)))
       by Greater t = e
-
-  -- what ties has the same list
-  pub first_tied : (p q : K) (hs : List (Head K)) → R p q ≡ Equal → first_of R hs p ≡ first_of R hs q
-  first_tied p q [] e = refl
-  first_tied p q (h ∷ hs) e = λ i. cond (is_eq (o.congr p q h.of e i)) h.first (first_tied p q hs e i)
-
-  -- a head that isn't there, dropped
-  pub first_still : (p q : K) (hs : List (Head K)) → first_of R hs q ≡ end → first_of R hs p ≡ cond (eq_by_cmp R p q) end (first_of R hs p)
-  first_still p q hs none = by (R p q) refl
-    where
-      by : (r : Ordering) → R p q ≡ r → first_of R hs p ≡ cond (is_eq r) end (first_of R hs p)
-      by Less e = refl
-      by Equal e = first_tied p q hs e ∙ none
-      by Greater e = refl
 
   -- the head of q set
   first_set : (p q : K) (low : List (Head K)) (h h' : Head K) (high : List (Head K)) → Rise R (low ++ h ∷ high) → R h.of q ≡ Equal → h'.of ≡ h.of
@@ -283,18 +269,6 @@ module _ {K : Type 0} {R : K → K → Ordering} (o : IsTotalOrder R) where
       first_when_inserted x gs e p =
           ap (λ xs. first_of R xs p) e ∙ first_more o p (take i hs) (record { of = q; first = x }) (drop i hs) low_high.0
           ∙ ap (λ xs. cond (eq_by_cmp R p q) x (first_of R xs p)) (sym whole)
-
--- what a search says of a list that it can search
-pub searched : (r : Result ℕ ℕ) (P Q : ℕ → Type 0) (S : Type 0) → S → MatchResult r P (λ i. S → Q i) → MatchResult r P Q
-searched (Ok i) P Q S s h = h
-searched (Err i) P Q S s h = h s
-
--- a search that ends at no head says that there is no list
-pub none_found : {K : Type 0} {R : K → K → Ordering} (o : IsTotalOrder R) (q : K) (hs : List (Head K)) → Rise R hs → (r : Result ℕ ℕ) → IsSearchInRange r (length hs)
-    → MatchResult r (HoldsAt (λ (h : Head K). R h.of q ≡ Equal) hs) (IsPartitionPoint (λ (h : Head K). R h.of q ≡ Less) (λ (h : Head K). R h.of q ≡ Greater) hs)
-    → OnErr r (first_of R hs q ≡ end)
-none_found o q hs s (Ok i) within found = tt
-none_found o q hs s (Err i) within found = first_missing o q hs i s within found
 
 -- ---- where a list is divided
 

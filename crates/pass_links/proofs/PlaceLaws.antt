@@ -97,8 +97,3 @@ pub head_kept : {K : Type 0} (f : ℕ → ℕ) (first : K → ℕ) (label : ℕ 
     → (old new : ℕ) → KeepsHeadRoom before (first q) old new → new ≤ old
 head_kept f first label q None y place low old new kept = kept.1 (λ e. omega (arith, place, e, low))
 head_kept f first label q (Some p) y place low old new kept = kept
-
--- at most one head comes
-pub head_more : (before : Option ℕ) (start old new : ℕ) → KeepsHeadRoom before start old new → new ≤ suc old
-head_more None start old new kept = omega (arith, kept.0)
-head_more (Some p) start old new kept = omega (arith, kept)

@@ -1,9 +1,11 @@
 -- Where lists begin: for each segment or pixel that has one, the key of its list's first node. Heads
 -- rise by the segment or pixel that they are of.
-use Rattle.std.specs.Prelude.{ℕ, cond, List, [], ◌∷◌, map}
+use Rattle.std.specs.Prelude.{◌≡◌, ℕ, cond, List, [], ◌∷◌, map, length, Result, MatchResult}
 use Rattle.std.specs.declared.cmp.Ordering.{Ordering}
 use Rattle.std.specs.Ordering.{eq_by_cmp}
-use Rattle.std.specs.List.Sorted.{IsStrictlySortedBy}
+use Rattle.std.specs.declared.cmp.Ordering.TheVariants.{Less, Equal, Greater}
+use Rattle.std.specs.List.{HoldsAt}
+use Rattle.std.specs.List.Sorted.{IsStrictlySortedBy, IsSearchInRange, IsPartitionPoint}
 use Rattle.std.specs.FinMap.{FinMap, empty, insert}
 use Rattle.grid_core.specs.declared.point.Point.{Point}
 use Rattle.grid_core.specs.Vector.{point_cmp}
@@ -27,6 +29,12 @@ pixel_start pixels pixel = first_of point_cmp pixels pixel
 -- the heads rise strictly
 abbrev pub Rise : {K : Type 0} → (K → K → Ordering) → List (Head K) → Type 0
 Rise {K} R heads = IsStrictlySortedBy R (map (λ (h : Head K). h.of) heads)
+
+-- the head of q stands there, or would stand there between the lesser and the greater
+pub record IsHeadPlace {K : Type 0} (R : K → K → Ordering) (heads : List (Head K)) (q : K) (place : Result ℕ ℕ) : Type 0 where
+  pub within : IsSearchInRange place (length heads)
+  pub found : MatchResult place (HoldsAt (λ (h : Head K). R h.of q ≡ Equal) heads)
+      (IsPartitionPoint (λ (h : Head K). R h.of q ≡ Less) (λ (h : Head K). R h.of q ≡ Greater) heads)
 
 -- the map from each head's segment or pixel to the list from its first key on
 unfoldable pub lists_of_heads : {K V : Type 0} (R : K → K → Ordering) → (ℕ → List V) → List (Head K) → FinMap R (List V)

@@ -1,14 +1,29 @@
 -- Places in the lists of a family, and what a search for one finds.
-use Rattle.std.specs.Prelude.{◌≡◌, ℕ, ◌⊎◌, Option, None, Some}
+use Rattle.std.specs.Prelude.{◌≡◌, ℕ, ◌⊎◌, List, Option, None, Some}
+use Rattle.std.specs.declared.cmp.Ordering.{Ordering}
 use Rattle.std.specs.declared.cmp.Ordering.TheVariants.{Less}
 use Rattle.grid_core.specs.declared.point.Point.{Point}
 use Rattle.grid_core.specs.Name.{Label, label_cmp}
+use Rattle.pass_links.specs.declared.heads.Head.{Head}
+use Rattle.pass_links.specs.declared.seek.Before.{Before}
+use Rattle.pass_links.specs.declared.seek.Before.TheVariants as before
 use Rattle.pass_links.specs.Chain.{end}
+use Rattle.pass_links.specs.Heads.{IsHeadPlace}
 
 -- the key `at` comes right behind `before` in the list of q, or first in it where there is none
 abbrev pub IsPlace : {K : Type 0} → (ℕ → ℕ) → (K → ℕ) → (ℕ → Option K) → K → Option ℕ → ℕ → Type 0
 IsPlace f first label q None at = first q ≡ at
 IsPlace f first label q (Some before) at = (label before ≡ Some q) × (f before ≡ at)
+
+-- the key of the node that comes before; none where the list's head does
+abbrev pub node_before : Before → Option ℕ
+node_before (before.Head place) = None
+node_before (before.Node key) = Some key
+
+-- where the head of q comes before, it stands there among the heads, or would stand there
+abbrev pub IsHeadBefore : {K : Type 0} → (K → K → Ordering) → List (Head K) → K → Before → Type 0
+IsHeadBefore R heads q (before.Head place) = IsHeadPlace R heads q place
+IsHeadBefore R heads q (before.Node key) = Unit {0}
 
 -- `before` is a key of a lesser name, or there is none
 abbrev pub IsLesser : (ℕ → Option Label) → Label → Option ℕ → Type 0

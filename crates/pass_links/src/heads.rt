@@ -1,13 +1,9 @@
 //! Where lists begin: for each segment or pixel that has one, the key of its list's first node.
-ghost use Rattle.std.specs.Prelude.{◌≡◌, ◌≢◌, ℕ, ◌+◌, ◌<◌, ◌≤◌, cond, length, MatchResult, OnErr};
-ghost use Rattle.std.specs.List.{HoldsAt};
-ghost use Rattle.std.specs.List.Sorted.{IsSearchInRange, IsPartitionPoint};
+ghost use Rattle.std.specs.Prelude.{◌≡◌, ◌≢◌, ℕ, ◌+◌, ◌<◌, ◌≤◌, cond, OnErr};
 ghost use Rattle.std.specs.Ordering.{eq_by_cmp};
-ghost use Rattle.std.specs.declared.cmp.Ordering.TheVariants.{Less, Equal, Greater};
 ghost use Rattle.std.specs.Vec.{vec_len, vec_capacity};
 ghost use Rattle.pass_links.specs.Chain.{end};
-ghost use Rattle.pass_links.specs.Heads.{first_of, Rise};
-ghost use Rattle.pass_links.specs.declared.heads.Head.{Head};
+ghost use Rattle.pass_links.specs.Heads.{first_of, Rise, IsHeadPlace};
 
 use crate::owner::Owner;
 use crate::store::END;
@@ -24,11 +20,7 @@ pub(crate) struct Head<K> {
 /// Where the head of this segment or pixel stands, or would stand.
 fn place<K: Owner>(heads: &[Head<K>], of: &K) -> Result<usize, usize>
     requires { Rise K.cmp heads.now }
-    ensures within { IsSearchInRange result (length heads.now) }
-    ensures place { MatchResult result
-        (HoldsAt (λ (h : Head K). K.cmp h.of of.now ≡ Equal) heads.now)
-        (IsPartitionPoint (λ (h : Head K). K.cmp h.of of.now ≡ Less)
-        (λ (h : Head K). K.cmp h.of of.now ≡ Greater) heads.now) }
+    ensures place { IsHeadPlace K.cmp heads.now of.now result }
     ensures none { OnErr result (first_of K.cmp heads.now of.now ≡ end) }
 {
     let at = heads.partition_point(|head| head.of.is_before(of));
@@ -38,49 +30,61 @@ fn place<K: Owner>(heads: &[Head<K>], of: &K) -> Result<usize, usize>
     if head.of == *of { Ok(at) } else { Err(at) }
 }
 
-/// The first key of this segment's or pixel's list, or `END` where there is none.
-pub(crate) fn first<K: Owner>(heads: &[Head<K>], of: K) -> u32
+/// What a search for a head found.
+#[derive(Clone, Copy)]
+pub(crate) struct Found {
+    /// Where the head stands, or would stand.
+    pub(crate) place: Result<usize, usize>,
+    /// The first key of its list, or `END` where there is none.
+    pub(crate) first: u32,
+}
+
+/// Searches for the head of this segment or pixel.
+pub(crate) fn find<K: Owner>(heads: &[Head<K>], of: K) -> Found
     requires { Rise K.cmp heads.now }
-    ensures { result ≡ first_of K.cmp heads.now of }
+    ensures place { IsHeadPlace K.cmp heads.now of result.place }
+    ensures first { result.first ≡ first_of K.cmp heads.now of }
 {
-    match place(heads, &of) {
-        Ok(at) => heads[at].first,
-        Err(_) => END,
+    let place = place(heads, &of);
+    match place {
+        Ok(at) => Found {
+            place,
+            first: heads[at].first,
+        },
+        Err(_) => Found { place, first: END },
     }
 }
 
-/// Sets where this segment's or pixel's list begins. Takes no memory.
-pub(crate) fn set_first<K: Owner>(heads: &mut Vec<Head<K>>, of: K, first: u32)
+/// Sets where this segment's or pixel's list begins, whose head has this place. The head of a list
+/// that becomes empty goes. Takes no memory.
+pub(crate) fn set_first<K: Owner>(
+    heads: &mut Vec<Head<K>>,
+    of: K,
+    place: Result<usize, usize>,
+    first: u32,
+)
     requires rise { Rise K.cmp heads.old.items }
+    requires place { IsHeadPlace K.cmp heads.old.items of place }
     requires room { first_of K.cmp heads.old.items of ≡ end
         → vec_len heads.old < vec_capacity heads.old }
     ensures rise { Rise K.cmp heads.new.items }
     ensures first { (q : K) → first_of K.cmp heads.new.items q
         ≡ cond (eq_by_cmp K.cmp q of) first (first_of K.cmp heads.old.items q) }
     ensures len { vec_len heads.new ≤ vec_len heads.old + 1 }
-    ensures same { first_of K.cmp heads.old.items of ≢ end
-        → vec_len heads.new ≡ vec_len heads.old }
+    ensures had { first_of K.cmp heads.old.items of ≢ end → vec_len heads.new ≤ vec_len heads.old }
     ensures capacity { vec_capacity heads.new ≡ vec_capacity heads.old }
 {
-    match place(heads, &of) {
-        Ok(at) => heads[at].first = first,
+    match place {
+        Ok(at) => {
+            if first == END {
+                heads.remove(at);
+            } else {
+                heads[at].first = first;
+            }
+        }
         Err(at) => {
             let put = heads.insert(at, Head { of, first });
             prove!(put.is_ok());
         }
-    }
-}
-
-/// Drops the head of this segment or pixel, whose list is empty from now on.
-pub(crate) fn drop_head<K: Owner>(heads: &mut Vec<Head<K>>, of: K)
-    requires { Rise K.cmp heads.old.items }
-    ensures rise { Rise K.cmp heads.new.items }
-    ensures first { (q : K) → first_of K.cmp heads.new.items q
-        ≡ cond (eq_by_cmp K.cmp q of) end (first_of K.cmp heads.old.items q) }
-    ensures len { vec_len heads.new ≤ vec_len heads.old }
-    ensures capacity { vec_capacity heads.new ≡ vec_capacity heads.old }
-{
-    if let Ok(at) = place(heads, &of) {
-        heads.remove(at);
     }
 }

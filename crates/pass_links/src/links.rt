@@ -11,68 +11,70 @@ ghost use Rattle.pass_links.specs.Lists.{pixels_from};
 ghost use Rattle.pass_links.specs.Heads.{Rise, segment_start, pixel_start};
 ghost use Rattle.pass_links.specs.Store.{stored_at};
 ghost use Rattle.pass_links.specs.Links.{PointsAlong, PointsAcross, HasHeadRoom, KeepsHeadRoom};
-ghost use Rattle.pass_links.specs.Seek.{IsPlace, IsThrough};
+ghost use Rattle.pass_links.specs.Seek.{IsPlace, IsThrough, node_before, IsHeadBefore};
 ghost use Rattle.pass_links.specs.Filing.{AreFiled, AreLonger};
 
-use crate::heads::{Head, drop_head, set_first};
+use crate::heads::{Head, set_first};
 use crate::node::{Node, set_across, set_along};
-use crate::seek::{Seek, seek_across};
-use crate::store::{END, Store};
+use crate::seek::{Before, Seek, seek_across};
+use crate::store::Store;
 use grid_core::{Name, Point};
 
-/// Lets `next` come behind the node at `before` in the segment's list, or first where there is none.
-/// A list with no node has no head. Takes no memory.
+/// Lets `next` come behind a node of the segment's list, or first in it. The head of a list that
+/// becomes empty goes. Takes no memory.
 pub(crate) fn point_along(
     nodes: &mut Store<Node>,
     segments: &mut Vec<Head<Name>>,
     name: Name,
-    before: Option<u32>,
+    before: Before,
     next: u32,
 )
-    requires stored { IfSome before (λ key. IsSome (stored_at nodes.old.slots key)) }
+    requires stored { IfSome (node_before before) (λ key. IsSome (stored_at nodes.old.slots key)) }
     requires rise { Rise label_cmp segments.old.items }
-    requires room { HasHeadRoom before (segment_start segments.old.items name)
+    requires head { IsHeadBefore label_cmp segments.old.items name before }
+    requires room { HasHeadRoom (node_before before) (segment_start segments.old.items name)
         (vec_len segments.old) (vec_capacity segments.old) }
     ensures points { PointsAlong nodes.old.slots nodes.new.slots
-        (segment_start segments.old.items) (segment_start segments.new.items) name before next }
+        (segment_start segments.old.items) (segment_start segments.new.items) name
+        (node_before before) next }
     ensures rise { Rise label_cmp segments.new.items }
     ensures room { nodes.new.room ≡ nodes.old.room }
-    ensures heads { KeepsHeadRoom before (segment_start segments.old.items name)
+    ensures heads { KeepsHeadRoom (node_before before) (segment_start segments.old.items name)
         (vec_len segments.old) (vec_len segments.new) }
     ensures heads_capacity { vec_capacity segments.new ≡ vec_capacity segments.old }
 {
     match before {
-        Some(key) => set_along(nodes, key, next),
-        None if next == END => drop_head(segments, name),
-        None => set_first(segments, name, next),
+        Before::Head(place) => set_first(segments, name, place, next),
+        Before::Node(key) => set_along(nodes, key, next),
     }
 }
 
-/// Lets `next` come behind the node at `before` in the pixel's list, or first where there is none.
-/// A list with no node has no head. Takes no memory.
+/// Lets `next` come behind a node of the pixel's list, or first in it. The head of a list that
+/// becomes empty goes. Takes no memory.
 pub(crate) fn point_across(
     nodes: &mut Store<Node>,
     pixels: &mut Vec<Head<Point>>,
     pixel: Point,
-    before: Option<u32>,
+    before: Before,
     next: u32,
 )
-    requires stored { IfSome before (λ key. IsSome (stored_at nodes.old.slots key)) }
+    requires stored { IfSome (node_before before) (λ key. IsSome (stored_at nodes.old.slots key)) }
     requires rise { Rise point_cmp pixels.old.items }
-    requires room { HasHeadRoom before (pixel_start pixels.old.items pixel)
+    requires head { IsHeadBefore point_cmp pixels.old.items pixel before }
+    requires room { HasHeadRoom (node_before before) (pixel_start pixels.old.items pixel)
         (vec_len pixels.old) (vec_capacity pixels.old) }
     ensures points { PointsAcross nodes.old.slots nodes.new.slots
-        (pixel_start pixels.old.items) (pixel_start pixels.new.items) pixel before next }
+        (pixel_start pixels.old.items) (pixel_start pixels.new.items) pixel
+        (node_before before) next }
     ensures rise { Rise point_cmp pixels.new.items }
     ensures room { nodes.new.room ≡ nodes.old.room }
-    ensures heads { KeepsHeadRoom before (pixel_start pixels.old.items pixel)
+    ensures heads { KeepsHeadRoom (node_before before) (pixel_start pixels.old.items pixel)
         (vec_len pixels.old) (vec_len pixels.new) }
     ensures heads_capacity { vec_capacity pixels.new ≡ vec_capacity pixels.old }
 {
     match before {
-        Some(key) => set_across(nodes, key, next),
-        None if next == END => drop_head(pixels, pixel),
-        None => set_first(pixels, pixel, next),
+        Before::Head(place) => set_first(pixels, pixel, place, next),
+        Before::Node(key) => set_across(nodes, key, next),
     }
 }
 
@@ -91,13 +93,15 @@ pub(crate) fn link_at(
     requires lists { AreFiled nodes.old.slots (segment_start segments.old.items)
         (pixel_start pixels.old.items) }
     requires place { IsPlace (along_at nodes.old.slots) (segment_start segments.old.items)
-        (name_at nodes.old.slots) name place.before place.at }
-    requires fresh { has_pixel (pixels_from nodes.old.slots (segment_start segments.old.items name)) pixel
-        ≡ false }
+        (name_at nodes.old.slots) name (node_before place.before) place.at }
+    requires head { IsHeadBefore label_cmp segments.old.items name place.before }
+    requires fresh { has_pixel (pixels_from nodes.old.slots
+        (segment_start segments.old.items name)) pixel ≡ false }
     requires room { 1 ≤ nodes.old.room }
     requires room_by_name { vec_len segments.old < vec_capacity segments.old }
     requires room_by_pixel { vec_len pixels.old < vec_capacity pixels.old }
-    ensures lists { (after : Option Point) → IsThrough (pixel_at nodes.old.slots) after place.before
+    ensures lists { (after : Option Point)
+        → IsThrough (pixel_at nodes.old.slots) after (node_before place.before)
         → AreLonger nodes.old.slots nodes.new.slots
         (segment_start segments.old.items) (segment_start segments.new.items)
         (pixel_start pixels.old.items) (pixel_start pixels.new.items) name pixel after }

@@ -7,12 +7,12 @@ ghost use Rattle.pass_links.specs.Passes.{pixels_of, names_at, has_pixel, AreLin
 ghost use Rattle.pass_links.specs.Passes.{linked_behind, run_behind, AreFresh, with_name, without_pixel, without_name};
 ghost use Rattle.pass_links.specs.Filing.{Unlinks};
 
-use crate::heads::{Head, first};
+use crate::heads::{Head, find};
 use crate::links::{link_at, point_across, point_along};
 use crate::lists::{Across, Along};
 use crate::node::Node;
 use crate::room::{copied, room_left};
-use crate::seek::{Seek, before_along, seek_across, seek_behind};
+use crate::seek::{Before, Seek, before_along, seek_across, seek_behind};
 use crate::store::Store;
 use grid_core::{Memory, Name, Point};
 use std::alloc::Global;
@@ -114,7 +114,7 @@ impl Passes {
     {
         Along {
             nodes: &self.nodes,
-            at: first(&self.segments, name),
+            at: find(&self.segments, name).first,
         }
     }
 
@@ -125,7 +125,7 @@ impl Passes {
     {
         Across {
             nodes: &self.nodes,
-            at: first(&self.pixels, pixel),
+            at: find(&self.pixels, pixel).first,
         }
     }
 
@@ -185,7 +185,7 @@ impl Passes {
                 place,
             );
             place = Seek {
-                before: Some(key),
+                before: Before::Node(key),
                 at: place.at,
             };
         }

@@ -8,42 +8,52 @@ ghost use Rattle.pass_links.specs.Chain.{end, IsFamily, is_of};
 ghost use Rattle.pass_links.specs.Node.{along_at, across_at, name_at, pixel_at};
 ghost use Rattle.pass_links.specs.Heads.{Rise, segment_start, pixel_start};
 ghost use Rattle.pass_links.specs.Lists.{pixels_from, names_from};
-ghost use Rattle.pass_links.specs.Seek.{IsPlace, IsLesser, IsAtName, IsThrough};
+ghost use Rattle.pass_links.specs.Seek.{IsPlace, IsLesser, IsAtName, IsThrough, node_before, IsHeadBefore};
 ghost use Rattle.pass_links.specs.Filing.{AreFiled};
 
-use crate::heads::{Head, first};
+use crate::heads::{Head, find};
 use crate::node::Node;
 use crate::store::Store;
 use grid_core::{Name, Point};
 
+/// What comes before a place in a list, and has the link to it.
+#[derive(Clone, Copy)]
+pub(crate) enum Before {
+    /// The list's head: where it stands among the heads, or would stand.
+    Head(Result<usize, usize>),
+    /// The node of this key.
+    Node(u32),
+}
+
 /// A place in a list.
 #[derive(Clone, Copy)]
 pub(crate) struct Seek {
-    /// The key of the node before it. `None` at the start of the list.
-    pub(crate) before: Option<u32>,
+    /// What comes before it.
+    pub(crate) before: Before,
     /// The key of the node there, or `END`.
     pub(crate) at: u32,
 }
 
-/// The key of the node before the one at `key` in the list of its segment. `None` where that one is
-/// the first.
+/// What comes before the node at `key` in the list of its segment.
 pub(crate) fn before_along(
     nodes: &Store<Node>,
     segments: &[Head<Name>],
     name: Name,
     key: u32,
-) -> Option<u32>
+) -> Before
     requires by_name { Rise label_cmp segments.now }
     requires lists { IsFamily label_eq (along_at nodes.now.slots) (segment_start segments.now)
         (name_at nodes.now.slots) end }
     requires stored { name_at nodes.now.slots key ≡ Some name }
-    ensures { IsPlace (along_at nodes.now.slots) (segment_start segments.now)
-        (name_at nodes.now.slots) name result key }
+    ensures place { IsPlace (along_at nodes.now.slots) (segment_start segments.now)
+        (name_at nodes.now.slots) name (node_before result) key }
+    ensures head { IsHeadBefore label_cmp segments.now name result }
 {
-    let mut before = None;
-    let mut at = first(segments, name);
+    let head = find(segments, name);
+    let mut before = Before::Head(head.place);
+    let mut at = head.first;
     while at != key {
-        before = Some(at);
+        before = Before::Node(at);
         at = nodes.value(at).along;
     }
     before
@@ -62,22 +72,24 @@ pub(crate) fn seek_across(
     requires by_name { IsStrictlySortedBy label_cmp
         (names_from nodes.now.slots (pixel_start pixels.now pixel)) }
     ensures place { IsPlace (across_at nodes.now.slots) (pixel_start pixels.now)
-        (pixel_at nodes.now.slots) pixel result.before result.at }
-    ensures lesser { IsLesser (name_at nodes.now.slots) name result.before }
+        (pixel_at nodes.now.slots) pixel (node_before result.before) result.at }
+    ensures head { IsHeadBefore point_cmp pixels.now pixel result.before }
+    ensures lesser { IsLesser (name_at nodes.now.slots) name (node_before result.before) }
     ensures here { IsAtName (name_at nodes.now.slots) name result.at }
     ensures found { has_name (names_from nodes.now.slots (pixel_start pixels.now pixel)) name
         ≡ is_of label_eq name (name_at nodes.now.slots result.at) }
 {
+    let head = find(pixels, pixel);
     let mut seek = Seek {
-        before: None,
-        at: first(pixels, pixel),
+        before: Before::Head(head.place),
+        at: head.first,
     };
     while let Some(node) = nodes.get(seek.at) {
         if node.name >= name {
             break;
         }
         seek = Seek {
-            before: Some(seek.at),
+            before: Before::Node(seek.at),
             at: node.across,
         };
     }
@@ -100,18 +112,22 @@ pub(crate) fn seek_behind(
     requires behind { IfSome after (λ a. IsTrue
         (has_pixel (pixels_from nodes.now.slots (segment_start segments.now name)) a)) }
     ensures place { IsPlace (along_at nodes.now.slots) (segment_start segments.now)
-        (name_at nodes.now.slots) name result.before result.at }
-    ensures through { IsThrough (pixel_at nodes.now.slots) after result.before }
+        (name_at nodes.now.slots) name (node_before result.before) result.at }
+    ensures head { IsHeadBefore label_cmp segments.now name result.before }
+    ensures through { IsThrough (pixel_at nodes.now.slots) after (node_before result.before) }
 {
     match after {
-        None => Seek {
-            before: None,
-            at: first(segments, name),
-        },
+        None => {
+            let head = find(segments, name);
+            Seek {
+                before: Before::Head(head.place),
+                at: head.first,
+            }
+        }
         Some(after) => {
             let before = seek_across(nodes, pixels, after, name).at;
             Seek {
-                before: Some(before),
+                before: Before::Node(before),
                 at: nodes.value(before).along,
             }
         }

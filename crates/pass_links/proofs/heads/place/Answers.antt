@@ -28,14 +28,14 @@ another g c =
     ∙ sym (g.met.K.Ord.matches_eq c.in-Some.head.now.of c.args.of.now) ∙ sym c.eq.ensures ∙ c.if-eq.false)
 
 pub returns-in_default-clause-place : goal.returns-in_default-clause-place
-returns-in_default-clause-place g c = none_after g c
+returns-in_default-clause-place g c = record { within = c.partition_point-at.ensures.bound; found = none_after g c }
 
 pub returns-in_default-clause-none : goal.returns-in_default-clause-none
 returns-in_default-clause-none g c =
     first_missing g.met.K.Ord.total c.args.of.now c.args.heads.now c.partition_point-at.result c.requires c.partition_point-at.ensures.bound (none_after g c)
 
 pub returns-else-eq-clause-place : goal.returns-else-eq-clause-place
-returns-else-eq-clause-place g c = another g c
+returns-else-eq-clause-place g c = record { within = c.partition_point-at.ensures.bound; found = another g c }
 
 pub returns-else-eq-clause-none : goal.returns-else-eq-clause-none
 returns-else-eq-clause-none g c =

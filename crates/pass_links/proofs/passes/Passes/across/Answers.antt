@@ -4,10 +4,10 @@ use Rattle.pass_links.specs.Heads.{segment_start, pixel_start}
 use Rattle.pass_links.proofs.SeekLaws.{free_of}
 use Rattle.pass_links.proofs.SeenLaws.{seen_names, seen_linked}
 use Rattle.pass_links.proofs.passes.Passes.across.Goals as goal
-use Rattle.pass_links.proofs.passes.Passes.across.Goals.{After-first}
+use Rattle.pass_links.proofs.passes.Passes.across.Goals.{After-find}
 
-begins : (c : After-first) → c.first.result ≡ pixel_start c.self.inside.pixels.items c.args.pixel
-begins c = c.first.ensures ∙ ap (λ l. pixel_start l c.args.pixel) c.deref.ensures.value
+begins : (c : After-find) → c.find.result.first ≡ pixel_start c.self.inside.pixels.items c.args.pixel
+begins c = c.find.ensures.first ∙ ap (λ l. pixel_start l c.args.pixel) c.deref.ensures.value
 
 pub invariant_of-result : goal.invariant_of-result
 invariant_of-result c =

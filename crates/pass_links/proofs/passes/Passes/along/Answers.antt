@@ -4,10 +4,10 @@ use Rattle.pass_links.specs.Heads.{segment_start}
 use Rattle.pass_links.proofs.SeekLaws.{free_of}
 use Rattle.pass_links.proofs.SeenLaws.{seen_pixels, seen_linked}
 use Rattle.pass_links.proofs.passes.Passes.along.Goals as goal
-use Rattle.pass_links.proofs.passes.Passes.along.Goals.{After-first}
+use Rattle.pass_links.proofs.passes.Passes.along.Goals.{After-find}
 
-begins : (c : After-first) → c.first.result ≡ segment_start c.self.inside.segments.items c.args.name
-begins c = c.first.ensures ∙ ap (λ l. segment_start l c.args.name) c.deref.ensures.value
+begins : (c : After-find) → c.find.result.first ≡ segment_start c.self.inside.segments.items c.args.name
+begins c = c.find.ensures.first ∙ ap (λ l. segment_start l c.args.name) c.deref.ensures.value
 
 pub invariant_of-result : goal.invariant_of-result
 invariant_of-result c =

@@ -7,7 +7,7 @@ use Rattle.pass_links.specs.Passes.{PassLists, pixels_of, names_at, has_pixel, l
 use Rattle.pass_links.specs.Node.{name_at, along_at}
 use Rattle.pass_links.specs.Heads.{segment_start, pixel_start}
 use Rattle.pass_links.specs.Lists.{pixels_from, names_from}
-use Rattle.pass_links.specs.Seek.{IsPlace}
+use Rattle.pass_links.specs.Seek.{IsPlace, node_before}
 use Rattle.pass_links.specs.Filing.{AreLonger}
 use Rattle.pass_links.proofs.SeenLaws.{seen, seen_pixels, seen_names}
 use Rattle.pass_links.proofs.passes.Passes.link_between.Goals as goal
@@ -23,7 +23,7 @@ seek_behind-place-requires-clause-behind c =
 pub link_at-requires-clause-place : goal.link_at-requires-clause-place
 link_at-requires-clause-place c =
     subst (λ hs. IsPlace (along_at c.self.inside.nodes.slots) (segment_start hs) (name_at c.self.inside.nodes.slots) c.args.name
-    c.seek_behind-place.result.before c.seek_behind-place.result.at) c.deref.ensures.value c.seek_behind-place.ensures.place
+    (node_before c.seek_behind-place.result.before) c.seek_behind-place.result.at) c.deref.ensures.value c.seek_behind-place.ensures.place
 
 pub link_at-requires-clause-fresh : goal.link_at-requires-clause-fresh
 link_at-requires-clause-fresh c =

@@ -2,11 +2,12 @@
 use Rattle.std.proofs.Common.{◌≡◌, ap, sym, ◌∙◌, subst, refl, arith, true, get_or}
 use Rattle.std.specs.Prelude.{IfSome, pos}
 use Rattle.std.proofs.lemmas.List.{take_more, drop_more, take_all, drop_all}
+use Rattle.grid_core.specs.Name.{label_cmp}
 use Rattle.pass_links.specs.Passes.{PassLists, has_pixel}
 use Rattle.pass_links.specs.Node.{name_at, along_at}
 use Rattle.pass_links.specs.Heads.{segment_start, pixel_start}
 use Rattle.pass_links.specs.Lists.{pixels_from}
-use Rattle.pass_links.specs.Seek.{IsPlace}
+use Rattle.pass_links.specs.Seek.{IsPlace, IsHeadBefore, node_before}
 use Rattle.pass_links.proofs.SeenLaws.{seen, seen_pixels, seen_names}
 use Rattle.pass_links.proofs.RunLaws.{run_begun, run_more, run_linked}
 use Rattle.pass_links.proofs.passes.Passes.link_run.Goals as goal
@@ -23,14 +24,15 @@ pub loop-pixel-init : goal.loop-pixel-init
 loop-pixel-init c = record {
   lists =
       run_begun c.args.name c.args.after c.args.run.now c.args.self.now c.self.inside.nodes.slots
-      (segment_start c.self.inside.segments.items) (pixel_start c.self.inside.pixels.items) c.seek_behind-place.result.before c.seek_behind-place.result.at
+      (segment_start c.self.inside.segments.items) (pixel_start c.self.inside.pixels.items) (node_before c.seek_behind-place.result.before) c.seek_behind-place.result.at
       c.self.invariant.lists
       (subst (λ hs. IsPlace (along_at c.self.inside.nodes.slots) (segment_start hs) (name_at c.self.inside.nodes.slots) c.args.name
-      c.seek_behind-place.result.before c.seek_behind-place.result.at) c.deref.ensures.value c.seek_behind-place.ensures.place)
+      (node_before c.seek_behind-place.result.before) c.seek_behind-place.result.at) c.deref.ensures.value c.seek_behind-place.ensures.place)
       c.seek_behind-place.ensures.through
       (seen_pixels c.self.inside.nodes.slots c.self.inside.segments.items c.self.inside.pixels.items c.args.self.now _ c.self.view_is)
       (seen_names c.self.inside.nodes.slots c.self.inside.segments.items c.self.inside.pixels.items c.args.self.now _ c.self.view_is)
       c.requires.fresh;
+  head = subst (λ hs. IsHeadBefore label_cmp hs c.args.name c.seek_behind-place.result.before) c.deref.ensures.value c.seek_behind-place.ensures.head;
   by_name = c.self.invariant.by_name;
   by_pixel = c.self.invariant.by_pixel;
   spare = ap (λ (v : PassLists). v.spare) c.self.view_is;
@@ -45,6 +47,7 @@ loop-pixel-preserved c = record {
       (drop_more c.args.run.now c.loop-pixel.pixel-index (record { x = pos 0; y = pos 0 }) c.loop-pixel-test.true)
       (take_more c.args.run.now c.loop-pixel.pixel-index (record { x = pos 0; y = pos 0 }) c.loop-pixel-test.true)
       c.link_at-key.ensures.lists c.link_at-key.ensures.next c.link_at-key.ensures.through;
+  head = tt;
   by_name = c.link_at-key.ensures.by_name;
   by_pixel = c.link_at-key.ensures.by_pixel;
   spare = c.loop-pixel.invariant.spare;
