@@ -18,7 +18,7 @@ pub record AreFiled (slots : List (Option Node)) (of_segment : Label → ℕ) (o
   pub across : IsFamily point_eq (across_at slots) of_pixel (pixel_at slots) end
   pub linked : AreLinked (λ n. pixels_from slots (of_segment n)) (λ p. names_from slots (of_pixel p))
 
--- the lists after a pass was linked
+-- the lists after a pass was linked, where those of segments began at a and begin at a', and those of pixels at b and b'
 pub record AreLonger (old new : List (Option Node)) (a a' : Label → ℕ) (b b' : Point → ℕ) (name : Label) (pixel : Point) (after : Option Point) : Type 0 where
   pub filed : AreFiled new a' b'
   pub segment : pixels_from new (a' name) ≡ linked_behind after pixel (pixels_from old (a name))

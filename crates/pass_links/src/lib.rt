@@ -27,9 +27,10 @@
 //! ```
 //!
 //! A list is found by binary search among the heads, and walked by links. A pass is linked or
-//! unlinked by setting two links, after a walk across its pixel's list, which is short; to unlink
-//! one that isn't the first of its segment, the segment's list is walked up to it. A segment or a
-//! pixel whose list begins, or becomes empty, moves the heads behind its own.
+//! unlinked by setting two links, after a walk across its pixel's list, and to link behind a pixel
+//! across that one's too; these lists are short. To unlink a pass that isn't the first of its
+//! segment, the segment's list is walked up to it. A segment or a pixel whose list begins, or
+//! becomes empty, moves the heads behind its own.
 //!
 //! A node takes 32 bytes, and 40 with the store's tag; the head of a segment takes 8, that of a
 //! pixel 24. A copy is three blocks of memory.

@@ -75,7 +75,8 @@ impl Passes {
     }
 
     /// Makes room for `more` passes, whatever their names and pixels.
-    /// The lists stay, after want of memory too.
+    /// The lists stay, after want of memory too. `Memory` also where more than 4,294,967,295 passes
+    /// would stand in the lists at once.
     pub fn reserve(&mut self, more: usize) -> Result<(), Memory>
         ensures segments { self.new.segments ≡ self.old.segments }
         ensures pixels { self.new.pixels ≡ self.old.pixels }
@@ -89,7 +90,7 @@ impl Passes {
         Ok(())
     }
 
-    /// How many passes can be linked without memory.
+    /// How many passes are sure to be linked without memory, whatever their names and pixels.
     pub fn spare(&self) -> usize
         ensures { result ≡ self.now.spare }
     {
@@ -255,7 +256,8 @@ impl Passes {
         self.copy_with_room(0)
     }
 
-    /// The same lists, with room for `more` passes.
+    /// The same lists, with room for `more` passes. `Memory` also where more than 4,294,967,295 passes
+    /// would stand in the lists at once.
     pub fn copy_with_room(&self, more: usize) -> Result<Passes, Memory>
         ensures segments { IfOk result (λ p. p.segments ≡ self.now.segments) }
         ensures pixels { IfOk result (λ p. p.pixels ≡ self.now.pixels) }

@@ -32,29 +32,46 @@ fn link_three_of(rt: &impl Abort, passes: &mut Passes, name: Name) {
     passes.link_between(name, B, Some(A));
 }
 
-#[test]
-fn link_three_unlink_a_pixel_unlink_a_segment(rt: HostRuntime) -> Result<(), Fail> {
+/// 1.1, and its passes through (0,0), (3,1) and (5,2).
+fn three_linked(rt: &(impl Abort + AllocGlobal)) -> Result<(Name, Passes), Fail> {
     let name = Name::new(1, 1).ok_or("1.1 is a name")?;
     let mut passes = Passes::open(rt.alloc());
     passes.reserve(3)?;
-    link_three_of(&rt, &mut passes, name);
+    link_three_of(rt, &mut passes, name);
+    Ok((name, passes))
+}
+
+#[test]
+fn link_three(rt: HostRuntime) -> Result<(), Fail> {
+    let (name, passes) = three_linked(&rt)?;
     assert_eq!(rt;
         walk(rt.alloc(), &passes, name)?.as_slice(),
         [A, B, C].as_slice()
     );
+    Ok(())
+}
 
-    // unlink_a_pixel
+#[test]
+fn unlink_a_pixel(rt: HostRuntime) -> Result<(), Fail> {
+    let (name, mut passes) = three_linked(&rt)?;
     passes.unlink_pixel(B);
     assert_eq!(rt;
         walk(rt.alloc(), &passes, name)?.as_slice(),
         [A, C].as_slice()
     );
     assert!(rt; passes.across(B).next().is_none());
+    Ok(())
+}
 
-    // unlink_a_segment
+#[test]
+fn unlink_a_segment(rt: HostRuntime) -> Result<(), Fail> {
+    let (name, mut passes) = three_linked(&rt)?;
+    passes.unlink_pixel(B);
     passes.unlink_segment(name);
     assert!(rt; passes.along(name).next().is_none());
-    assert!(rt; passes.across(A).next().is_none() && passes.across(C).next().is_none());
+    for pixel in [A, B, C] {
+        assert!(rt; passes.across(pixel).next().is_none());
+    }
     Ok(())
 }
 
@@ -179,6 +196,16 @@ fn random_calls_as_in_plain_maps(rt: HostRuntime) -> Result<(), Fail> {
             }
             2 => passes = passes.copy()?,
             3 => passes = passes.copy_with_room(2)?,
+            4 | 5 => {
+                let after = Some(pixel_of(drawn >> 24)).filter(|after| passes.has(name, *after));
+                let next = pixel_of((drawn >> 14) + 1);
+                if pixel != next && !passes.has(name, pixel) && !passes.has(name, next) {
+                    passes.reserve(2)?;
+                    passes.link_run(name, after, [pixel, next].as_slice());
+                    plain.link(name, pixel, after)?;
+                    plain.link(name, next, Some(pixel))?;
+                }
+            }
             _ => {
                 let after = Some(pixel_of(drawn >> 24)).filter(|after| passes.has(name, *after));
                 if !passes.has(name, pixel) {
