@@ -53,7 +53,7 @@ pub record IsNew (old : List (Option Node)) (a : Label → ℕ) (b : Point → �
 module _ (old new : List (Option Node)) (a a' : Label → ℕ) (b b' : Point → ℕ) (name : Label) (pixel : Point) (after : Option Point) (x : ℕ)
     (before_a : Option ℕ) (at_a : ℕ) (before_b : Option ℕ) (at_b : ℕ) (filed : AreFiled old a b)
     (w : IsNew old a b name pixel after x before_a at_a before_b at_b)
-    (c : Relinks old new a a' b b' name pixel x (Some (record { name = name; pixel = pixel; along = at_a; across = at_b })) before_a x before_b x) where
+    (c : Relinks old new a a' b b' name pixel x (Some (record { name = name; pixel = pixel; next_of_segment = at_a; next_of_pixel = at_b })) before_a x before_b x) where
   -- ---- the segment's list
 
   unnamed : name_at old x ≡ None

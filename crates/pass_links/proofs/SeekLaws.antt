@@ -132,12 +132,12 @@ module _ (slots : List (Option Node)) (pixels : List (Head Point)) (pixel : Poin
 
   -- a node is passed
   pub across_steps : (at : ℕ) (node : Node) → Some node ≡ node_at slots at → IsWay (across_at slots) at (way (across_at slots) end at)
-      → Steps (across_at slots) (names_from slots) at node.across node.name
+      → Steps (across_at slots) (names_from slots) at node.next_of_pixel node.name
   across_steps at node e whole = across_step slots (free_across slots (pixel_start pixels) lists) at node (sym e) whole
 
   -- a node of a lesser name is passed
   pub across_passed : (before : Option ℕ) (at : ℕ) (node : Node) → SeeksAcross slots pixels pixel name before at → Some node ≡ node_at slots at
-      → label_cmp node.name name ≡ Less → SeeksAcross slots pixels pixel name (Some at) node.across
+      → label_cmp node.name name ≡ Less → SeeksAcross slots pixels pixel name (Some at) node.next_of_pixel
   across_passed before at node h e less =
       let s = across_steps at node e h.whole in record {
         place = (
@@ -146,10 +146,10 @@ module _ (slots : List (Option Node)) (pixels : List (Head Point)) (pixel : Poin
         );
         whole = s.whole;
         lesser = (node.name, ap name_of (sym e), less);
-        rise = rest_rises node.name (names_from slots node.across) (names_from slots at) s.first h.rise;
+        rise = rest_rises node.name (names_from slots node.next_of_pixel) (names_from slots at) s.first h.rise;
         comes =
             h.comes ∙ ap (λ ns. has_name ns name) s.first
-            ∙ ap (λ r. is_eq r || has_name (names_from slots node.across) name) (label_total.antisymm name node.name ∙ ap ordering_reverse less);
+            ∙ ap (λ r. is_eq r || has_name (names_from slots node.next_of_pixel) name) (label_total.antisymm name node.name ∙ ap ordering_reverse less);
       }
 
   nowhere : {o : Option Point} → o ≡ Some pixel → o ≡ None → ⊥
@@ -172,7 +172,7 @@ module _ (slots : List (Option Node)) (pixels : List (Head Point)) (pixel : Poin
       → (IsAtName (name_at slots) name at) × (has_name (names_from slots (pixel_start pixels pixel)) name ≡ is_of label_eq name (name_at slots at))
   across_found before at node h e least =
       let s = across_steps at node e h.whole in
-      let o = only_first name node.name (names_from slots node.across) (label_cmp node.name name) refl least (subst (IsStrictlySortedBy label_cmp) s.first h.rise) in (
+      let o = only_first name node.name (names_from slots node.next_of_pixel) (label_cmp node.name name) refl least (subst (IsStrictlySortedBy label_cmp) s.first h.rise) in (
         inr (node.name, ap name_of (sym e), o.0),
         h.comes ∙ ap (λ ns. has_name ns name) s.first ∙ o.1 ∙ ap (λ o. is_of label_eq name (name_of o)) e,
       )

@@ -49,9 +49,9 @@ module _ (slots : List (Option Node)) where
 
   -- past a node on the way along a segment's list
   pub along_step : IsEndFree slots → (at : ℕ) (node : Node) → node_at slots at ≡ Some node → IsWay (along_at slots) at (way (along_at slots) end at)
-      → Steps (along_at slots) (pixels_from slots) at node.along node.pixel
+      → Steps (along_at slots) (pixels_from slots) at node.next_of_segment node.pixel
   along_step free at node e whole =
-      step (along_at slots) (pixel_at slots) at node.along node.pixel whole (not_end free at node e) (ap pixel_of e) (ap along_of e)
+      step (along_at slots) (pixel_at slots) at node.next_of_segment node.pixel whole (not_end free at node e) (ap pixel_of e) (ap along_of e)
 
   -- where no node is, the segment's list ends
   pub along_done : (at : ℕ) → node_at slots at ≡ None → IsWay (along_at slots) at (way (along_at slots) end at) → pixels_from slots at ≡ []
@@ -59,9 +59,9 @@ module _ (slots : List (Option Node)) where
 
   -- past a node on the way across a pixel's list
   pub across_step : IsEndFree slots → (at : ℕ) (node : Node) → node_at slots at ≡ Some node → IsWay (across_at slots) at (way (across_at slots) end at)
-      → Steps (across_at slots) (names_from slots) at node.across node.name
+      → Steps (across_at slots) (names_from slots) at node.next_of_pixel node.name
   across_step free at node e whole =
-      step (across_at slots) (name_at slots) at node.across node.name whole (not_end free at node e) (ap name_of e) (ap across_of e)
+      step (across_at slots) (name_at slots) at node.next_of_pixel node.name whole (not_end free at node e) (ap name_of e) (ap across_of e)
 
   -- where no node is, the pixel's list ends
   pub across_done : (at : ℕ) → node_at slots at ≡ None → IsWay (across_at slots) at (way (across_at slots) end at) → names_from slots at ≡ []

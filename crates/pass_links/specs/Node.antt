@@ -10,12 +10,12 @@ use Rattle.pass_links.specs.Store.{stored_at}
 -- the key behind a node in its segment's list; the end where there is no node
 abbrev pub along_of : Option Node → ℕ
 along_of None = end
-along_of (Some node) = node.along
+along_of (Some node) = node.next_of_segment
 
 -- the key behind a node in its pixel's list; the end where there is no node
 abbrev pub across_of : Option Node → ℕ
 across_of None = end
-across_of (Some node) = node.across
+across_of (Some node) = node.next_of_pixel
 
 -- the segment of a node
 abbrev pub name_of : Option Node → Option Label

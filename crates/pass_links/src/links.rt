@@ -120,8 +120,8 @@ pub(crate) fn link_at(
     let key = nodes.insert(Node {
         name,
         pixel,
-        along: place.at,
-        across: across.at,
+        next_of_segment: place.at,
+        next_of_pixel: across.at,
     });
     point_along(nodes, segments, name, place.before, key);
     point_across(nodes, pixels, pixel, across.before, key);

@@ -36,7 +36,7 @@ impl<'a> Iterator for Along<'a> {
 
     fn next(&mut self) -> Option<Point> {
         let node = self.nodes.get(self.at)?;
-        self.at = node.along;
+        self.at = node.next_of_segment;
         Some(node.pixel)
     }
 }
@@ -71,7 +71,7 @@ impl<'a> Iterator for Across<'a> {
 
     fn next(&mut self) -> Option<Name> {
         let node = self.nodes.get(self.at)?;
-        self.at = node.across;
+        self.at = node.next_of_pixel;
         Some(node.name)
     }
 }

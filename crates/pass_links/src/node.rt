@@ -14,9 +14,9 @@ pub(crate) struct Node {
     /// The hot pixel.
     pub(crate) pixel: Point,
     /// The key of the next node in the segment's list, or `END`.
-    pub(crate) along: u32,
+    pub(crate) next_of_segment: u32,
     /// The key of the next node in the pixel's list, or `END`.
-    pub(crate) across: u32,
+    pub(crate) next_of_pixel: u32,
 }
 
 /// Sets what comes behind the node at `key` in its segment's list.
@@ -29,7 +29,7 @@ pub(crate) fn set_along(nodes: &mut Store<Node>, key: u32, next: u32)
     nodes.set(
         key,
         Node {
-            along: next,
+            next_of_segment: next,
             ..node
         },
     );
@@ -45,7 +45,7 @@ pub(crate) fn set_across(nodes: &mut Store<Node>, key: u32, next: u32)
     nodes.set(
         key,
         Node {
-            across: next,
+            next_of_pixel: next,
             ..node
         },
     );

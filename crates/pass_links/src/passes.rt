@@ -236,14 +236,14 @@ impl Passes {
             &mut self.segments,
             name,
             before,
-            node.along,
+            node.next_of_segment,
         );
         point_across(
             &mut self.nodes,
             &mut self.pixels,
             pixel,
             across.before,
-            node.across,
+            node.next_of_pixel,
         );
         self.spare = room_left(&self.nodes, &self.segments, &self.pixels);
     }

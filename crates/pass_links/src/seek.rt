@@ -54,7 +54,7 @@ pub(crate) fn before_along(
     let mut at = head.first;
     while at != key {
         before = Before::Node(at);
-        at = nodes.value(at).along;
+        at = nodes.value(at).next_of_segment;
     }
     before
 }
@@ -90,7 +90,7 @@ pub(crate) fn seek_across(
         }
         seek = Seek {
             before: Before::Node(seek.at),
-            at: node.across,
+            at: node.next_of_pixel,
         };
     }
     seek
@@ -128,7 +128,7 @@ pub(crate) fn seek_behind(
             let before = seek_across(nodes, pixels, after, name).at;
             Seek {
                 before: Before::Node(before),
-                at: nodes.value(before).along,
+                at: nodes.value(before).next_of_segment,
             }
         }
     }

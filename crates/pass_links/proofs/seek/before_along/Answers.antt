@@ -18,13 +18,13 @@ value-requires c =
 
 pub loop-at-smaller : goal.loop-at-smaller
 loop-at-smaller c =
-    along_shorter c.args.nodes.now.slots c.args.segments.now c.args.name c.args.key c.requires.lists _ c.loop-at.at c.value.result.now.along c.loop-at.invariant.seeks
+    along_shorter c.args.nodes.now.slots c.args.segments.now c.args.name c.args.key c.requires.lists _ c.loop-at.at c.value.result.now.next_of_segment c.loop-at.invariant.seeks
     (ap along_of c.value.ensures)
 
 pub loop-at-preserved : goal.loop-at-preserved
 loop-at-preserved c = record {
   seeks =
-      along_passed c.args.nodes.now.slots c.args.segments.now c.args.name c.args.key c.requires.lists _ c.loop-at.at c.value.result.now.along
+      along_passed c.args.nodes.now.slots c.args.segments.now c.args.name c.args.key c.requires.lists _ c.loop-at.at c.value.result.now.next_of_segment
       c.loop-at.invariant.seeks c.loop-at-test.true (ap along_of c.value.ensures);
   head = tt;
 }
