@@ -1,11 +1,10 @@
--- A level carries its edits run by run: those that are done have made its entries, and the rest is as it came. A run that stopped within itself leaves entries of which all edits make what they would have made of those of before.
+-- A level carries its edits run by run: those that are done have made its entries, and the rest is as it came.
 use Rattle.std.proofs.Common.{◌≡◌, ℕ, suc, ◌+◌, ◌%◌, ◌<◌, ◌≤◌, List, [], ◌∷◌, ◌++◌, length, drop, get_or, option_map, Option, refl, sym, ap, ◌∙◌, arith, length-append, append_assoc}
 use Rattle.std.proofs.Math.Seq.{drop-cons}
 use Rattle.std.specs.Arc.{arc_value}
 use Rattle.std.specs.declared.sync.Arc.{Arc}
-use Rattle.radix_map.specs.Entries.{edited, edited_within, Rises, KeysFit, Counts}
+use Rattle.radix_map.specs.Entries.{edited, edited_within, KeysFit, Counts}
 use Rattle.radix_map.proofs.Trees.{within-append, fit-append}
-use Rattle.radix_map.proofs.Values.{edited_anew}
 
 -- of the edits all but the rest are done, and made the entries es those of now
 pub record Carried {V Z : Type 0} (w : ℕ) (es now : List (ℕ × V)) (edits rest : List (ℕ × Option (Arc V Z))) (added removed : ℕ) : Type 0 where
@@ -44,12 +43,6 @@ carried_more w es now next edits rest run later added removed a r c e fit k n l 
       few_added = omega arith;
       few_removed = omega arith;
     }
-
--- a run stopped within itself
-pub carried_anew : {V Z : Type 0} (w : ℕ) (es now part : List (ℕ × V)) (edits rest run later : List (ℕ × Option (Arc V Z))) (added removed : ℕ) → 0 < w → Rises 0 w es → Rises 0 w part → Carried w es now edits rest added removed → rest ≡ run ++ later → edited_within w part run ≡ edited_within w now run → edited_within w part edits ≡ edited_within w es edits
-carried_anew w es now part edits rest run later added removed p h g c e k =
-    let all : edits ≡ c.done ++ (run ++ later) = c.all ∙ ap (λ t. c.done ++ t) e in
-    ap (edited_within w part) all ∙ edited_anew w es part c.done run later p h g (k ∙ ap (λ t. edited_within w t run) c.is) ∙ ap (edited_within w es) (sym all)
 
 none_before : {V Z : Type 0} (w : ℕ) (es : List (ℕ × V)) (xs : List (ℕ × Option (Arc V Z))) → length xs ≡ 0 → edited_within w es xs ≡ es
 unfolding edited_within

@@ -10,7 +10,7 @@ use Rattle.radix_map.specs.Places.{item_at, places_of, taken}
 use Rattle.radix_map.specs.Entries.{edited_within, entries_of, part, joined, Rises, InPlace, Counts}
 use Rattle.radix_map.proofs.Digits.{free_place, taken_place, places-length}
 use Rattle.radix_map.proofs.Copied.{refilled}
-use Rattle.radix_map.proofs.Trees.{map-set, take-set, set-own, part_at, node_edited, node_anew, node_counted}
+use Rattle.radix_map.proofs.Trees.{map-set, take-set, set-own, part_at, node_edited, node_counted}
 
 -- b took the place of a
 pub record IsChange {T : Type 0} (xs ys : List (Option T)) (i : ℕ) (a b : T) : Type 0 where
@@ -28,11 +28,6 @@ pub change_ok : {T V Z E X : Type 0} (r : Result X E) (f : T → List (ℕ × V)
 change_ok (Ok x) f s h xs ys shift i a b run e l n c k =
     ap (entries_of f (2 ^ (s + 4))) c.is ∙ node_edited f s h xs shift i (Some a) (Some b) run e l c.wide n (sym c.was) k
 change_ok (Err x) f s h xs ys shift i a b run e l n c k = k
-
-pub change_anew : {T V Z E X : Type 0} (r : Result X E) (f : T → List (ℕ × V)) (s : ℕ) → ((x : T) → Rises 0 (16 * 2 ^ s) (f x)) → (xs ys : List (Option T)) (shift i : ℕ) (a b : T) (run : List (ℕ × Option (Arc V Z))) → shift ≡ s + 4 → i < 16 → InPlace (2 ^ shift) i run → IsChange xs ys i a b → OnErr r (edited_within (16 * 2 ^ s) (f b) run ≡ edited_within (16 * 2 ^ s) (f a) run) → OnErr r (edited_within (16 * 2 ^ (s + 4)) (entries_of f (2 ^ (s + 4)) ys) run ≡ edited_within (16 * 2 ^ (s + 4)) (entries_of f (2 ^ (s + 4)) xs) run)
-change_anew (Ok x) f s h xs ys shift i a b run e l n c k = k
-change_anew (Err x) f s h xs ys shift i a b run e l n c k =
-    ap (λ zs. edited_within (16 * 2 ^ (s + 4)) (entries_of f (2 ^ (s + 4)) zs) run) c.is ∙ node_anew f s h xs shift i (Some a) (Some b) run e l c.wide n (sym c.was) k
 
 pub change_err : {T V E X : Type 0} (r : Result X E) (f : T → List (ℕ × V)) (step : ℕ) (xs ys : List (Option T)) (i : ℕ) (a b : T) → i < 16 → IsChange xs ys i a b → OnErr r (f b ≡ f a) → OnErr r (entries_of f step ys ≡ entries_of f step xs)
 change_err (Ok x) f step xs ys i a b l c k = k

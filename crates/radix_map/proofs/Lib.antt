@@ -1,4 +1,5 @@
 pub mod Carried
+pub mod Carrying
 pub mod Copied
 pub mod Digits
 pub mod Edits

@@ -1,5 +1,5 @@
 -- The root: its keys rise below 2 ^ 32, so that it has no more entries than that, and edits at keys below it need no width.
-use Rattle.std.proofs.Common.{◌≡◌, ℕ, ◌+◌, ◌*◌, ◌^◌, ◌≤◌, List, [], ◌∷◌, length, Option, Some, None, option_map, true, Vec, vec_len, ◌==◌, refl, sym, ap, ◌∙◌, subst, arith}
+use Rattle.std.proofs.Common.{◌≡◌, ℕ, suc, zero, ◌+◌, ◌*◌, ◌^◌, ◌≤◌, List, [], ◌∷◌, ◌++◌, length, take, take_all, drop, Option, Some, None, option_map, refl, sym, ap, ◌∙◌, subst, arith}
 use Rattle.std.proofs.Math.Nat.{mod-eq_of_lt}
 use Rattle.std.specs.Arc.{arc_value}
 use Rattle.std.specs.declared.sync.Arc.{Arc}
@@ -7,11 +7,11 @@ use Rattle.radix_map.specs.declared.level.Leaf.{Leaf}
 use Rattle.radix_map.specs.declared.level.Node.{Node}
 use Rattle.radix_map.specs.Entries.{value_at, edited, edited_all, edited_within, KeysFit, Rises}
 use Rattle.radix_map.specs.Map.{leaf_entries, node_entries, root_entries}
-use Rattle.radix_map.specs.Pending.{edit_or}
-use borrow.Author.Tests.{eqb-true}
-use Rattle.radix_map.proofs.Noted.{value_noted, fit_from_rises, no_items}
+use Rattle.radix_map.specs.Pending.{edit_or, IsCarried}
+use Rattle.std.proofs.lemmas.List.{take-append-drop}
+use Rattle.radix_map.proofs.Noted.{value_noted, fit_from_rises}
 use Rattle.radix_map.proofs.Values.{within_rises}
-use Rattle.radix_map.specs.Rising.{leaf_rises, node_rises, rises-length}
+use Rattle.radix_map.specs.Rising.{leaf_rises, node_rises, rises_lower, rises-length}
 
 abbrev Within : {T V : Type 0} → (T → List (ℕ × V)) → ℕ → Type 0
 Within {T} f s = (x : T) → Rises 0 (16 * 2 ^ s) (f x)
@@ -55,10 +55,36 @@ pub root_edited : {V Z : Type 0} (x y z : Node (Node (Node (Node (Node (Node (No
 root_edited x y z ps qs e fit s h =
     h ∙ ap (λ es. edited_within 4294967296 es ps) s ∙ within_all (root_entries z) ps fit ∙ ap (edited_all (root_entries z)) e
 
--- edits that stopped on their way, and count over the root, make what they would have made before
-pub root_anew : {V Z : Type 0} (x y : Node (Node (Node (Node (Node (Node (Node (Leaf V)))))))) (ps qs : List (ℕ × Option (Arc V Z))) → ps ≡ qs → KeysFit ps → edited_within 4294967296 (root_entries y) ps ≡ edited_within 4294967296 (root_entries x) ps → edited_all (root_entries y) qs ≡ edited_all (root_entries x) qs
-root_anew x y ps qs e fit h =
-    ap (edited_all (root_entries y)) (sym e) ∙ sym (within_all (root_entries y) ps fit) ∙ h ∙ within_all (root_entries x) ps fit ∙ ap (edited_all (root_entries x)) e
+-- ---- noted edits that were carried into a root
+
+pub rises_drop : {V : Type 0} (a b n : ℕ) (es : List (ℕ × V)) → Rises a b es → Rises a b (drop n es)
+rises_drop a b zero es h = h
+rises_drop a b (suc n) [] h = h
+rises_drop a b (suc n) (e ∷ es) h = let l = h.0 in rises_drop a b n es (rises_lower a (e.0 + 1) b es (omega arith) h.1)
+
+fit_first : {V Z : Type 0} (n : ℕ) (ps : List (ℕ × Option (Arc V Z))) → KeysFit ps → KeysFit (take n ps)
+fit_first zero ps h = tt
+fit_first (suc n) [] h = tt
+fit_first (suc n) (p ∷ ps) h = (h.0, fit_first n ps h.1)
+
+all-append : {V Z : Type 0} (es : List (ℕ × V)) (xs ys : List (ℕ × Option (Arc V Z))) → edited_all es (xs ++ ys) ≡ edited_all (edited_all es xs) ys
+unfolding edited_all
+all-append es [] ys = refl
+all-append es (x ∷ xs) ys = all-append (edited es x.0 (option_map arc_value x.1)) xs ys
+
+pub root_carried : {V Z : Type 0} (x y : Node (Node (Node (Node (Node (Node (Node (Leaf V)))))))) (ps : List (ℕ × Option (Arc V Z))) (n : ℕ) → length ps ≤ n → Rises 0 4294967296 ps → root_entries y ≡ edited_within 4294967296 (root_entries x) (take n ps) → root_entries y ≡ edited_all (root_entries x) ps
+root_carried x y ps n l h e =
+    e ∙ ap (edited_within 4294967296 (root_entries x)) (take_all n ps l) ∙ within_all (root_entries x) ps (fit_from_rises 0 ps h)
+
+-- some were carried, and the others count over the root
+pub root_part : {V Z : Type 0} (x y : Node (Node (Node (Node (Node (Node (Node (Leaf V)))))))) (ps qs : List (ℕ × Option (Arc V Z))) (n : ℕ) → Rises 0 4294967296 ps → IsCarried 4294967296 (root_entries x) (root_entries y) n ps qs → edited_all (root_entries y) qs ≡ edited_all (root_entries x) ps
+root_part x y ps qs n h c =
+    let done = take c.done ps in
+    let fit = fit_first c.done ps (fit_from_rises 0 ps h) in
+    ap (edited_all (root_entries y)) c.rest ∙ ap (λ es. edited_all es (drop c.done ps)) (c.made ∙ within_all (root_entries x) done fit) ∙ sym (all-append (root_entries x) done (drop c.done ps)) ∙ ap (edited_all (root_entries x)) (take-append-drop c.done ps)
+
+pub part_rises : {V Z : Type 0} (x y : Node (Node (Node (Node (Node (Node (Node (Leaf V)))))))) (ps qs : List (ℕ × Option (Arc V Z))) (n : ℕ) → Rises 0 4294967296 ps → IsCarried 4294967296 (root_entries x) (root_entries y) n ps qs → Rises 0 4294967296 qs
+part_rises x y ps qs n h c = subst (Rises 0 4294967296) (sym c.rest) (rises_drop 0 4294967296 c.done ps h)
 
 pub no_edits : {V Z : Type 0} (es : List (ℕ × V)) (ps : List (ℕ × Option (Arc V Z))) → ps ≡ [] → edited_all es ps ≡ es
 unfolding edited_all
@@ -73,9 +99,3 @@ edited_size x ps h =
     let same = ap length (within_all (root_entries x) ps (fit_from_rises 0 ps h)) in
     let size = rises-length 0 4294967296 within (within_rises 4294967296 (root_entries x) ps (omega arith) (root_rises x)) in
     omega arith
-
-pub nothing_noted : {T Z : Type 0} (v : Vec T Z) → true ≡ (vec_len v == 0) → v.items ≡ []
-nothing_noted v e =
-    let none : vec_len v ≡ 0 = eqb-true (vec_len v) 0 (sym e) in
-    let ok = v.ok in
-    no_items v.items (omega arith)

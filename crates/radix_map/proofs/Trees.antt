@@ -11,7 +11,7 @@ use Rattle.std.specs.Cmp.{ranks}
 use lib.Arith.{mod-mul}
 use Rattle.radix_map.specs.Places.{item_at}
 use Rattle.radix_map.specs.Entries.{value_at, with_key, without_key, edited, edited_within, Rises, raised, part, joined, entries_of, single, InPlace, KeysFit, Counts}
-use Rattle.radix_map.specs.Rising.{rises_lower, rises-first, rises-joined, rises-single, rises-part, parts_rise, AllRise, fits_16, pow_16}
+use Rattle.radix_map.specs.Rising.{rises_lower, rises-first, rises-joined, rises-single, parts_rise, AllRise, fits_16, pow_16}
 use Rattle.radix_map.proofs.Digits.{pow_pos}
 use Rattle.radix_map.proofs.Keys.{value-append_left, value-append_right, value-raised, edited-append_left, edited-append_right, edited-raised}
 
@@ -145,20 +145,6 @@ of_edited f step h p xs i edits w l n r e =
     let t = length-take 16 xs in
     ap (λ ys. joined step 0 (map (part f) ys)) (take-set 16 i xs w) ∙ ap (joined step 0) (map-set (part f) (take 16 xs) i w) ∙ ap (λ es. joined step 0 (set ess i es)) (e ∙ ap (λ es. edited_within step es edits) (sym (part_at f 16 xs i l))) ∙ joined_run step ess i edits p (parts_rise f step h (take 16 xs)) (omega arith) r
 
--- a place of which edits make what they would have made before: so do they of all places
-pub of_anew : {T V Z : Type 0} (f : T → List (ℕ × V)) (step : ℕ) → ((x : T) → Rises 0 step (f x)) → 0 < step → (xs : List (Option T)) (i : ℕ) (edits : List (ℕ × Option (Arc V Z))) (w : Option T) → i < 16 → length xs ≡ 16 → InPlace step i edits → edited_within step (part f w) edits ≡ edited_within step (part f (item_at xs i)) edits → edited_within (16 * step) (entries_of f step (set xs i w)) edits ≡ edited_within (16 * step) (entries_of f step xs) edits
-unfolding entries_of
-of_anew f step h p xs i edits w l n r e =
-    let ess = map (part f) (take 16 xs) in
-    let next = set ess i (part f w) in
-    let m = length-map (take 16 xs) (part f) in
-    let t = length-take 16 xs in
-    let in_row : i < length ess = omega arith in
-    let size = set-size ess i (part f w) in
-    let rise = parts_rise f step h (take 16 xs) in
-    let later = all_rise-set step ess i (part f w) rise (rises-part f step h w) in
-    ap (λ ys. edited_within (16 * step) (joined step 0 (map (part f) ys)) edits) (take-set 16 i xs w) ∙ ap (λ ess. edited_within (16 * step) (joined step 0 ess) edits) (map-set (part f) (take 16 xs) i w) ∙ sym (joined_run step next i edits p later (omega arith) r) ∙ ap (λ es. joined step 0 (set next i (edited_within step es edits))) (get-set ess i (part f w) [] in_row) ∙ ap (joined step 0) (set-twice ess i (part f w) (edited_within step (part f w) edits)) ∙ ap (λ es. joined step 0 (set ess i es)) (e ∙ ap (λ es. edited_within step es edits) (sym (part_at f 16 xs i l))) ∙ joined_run step ess i edits p rise in_row r
-
 pub of_none : {T V : Type 0} (f : T → List (ℕ × V)) (step : ℕ) → entries_of f step (replicate 16 None) ≡ []
 unfolding entries_of joined raised
 of_none f step = refl
@@ -254,10 +240,6 @@ node_value f s h xs key shift at o e i p =
 pub node_edited : {T V Z : Type 0} (f : T → List (ℕ × V)) (s : ℕ) → ((x : T) → Rises 0 (16 * 2 ^ s) (f x)) → (xs : List (Option T)) (shift at : ℕ) (o w : Option T) (run : List (ℕ × Option (Arc V Z))) → shift ≡ s + 4 → at < 16 → length xs ≡ 16 → InPlace (2 ^ shift) at run → o ≡ item_at xs at → part f w ≡ edited_within (16 * 2 ^ s) (part f o) run → entries_of f (2 ^ (s + 4)) (set xs at w) ≡ edited_within (16 * 2 ^ (s + 4)) (entries_of f (2 ^ (s + 4)) xs) run
 node_edited f s h xs shift at o w run e l n r p k =
     of_edited f (2 ^ (s + 4)) (fits_16 f s h) (pow_pos (s + 4)) xs at run w l n (subst (λ t. InPlace (2 ^ t) at run) e r) (k ∙ ap (λ m. edited_within m (part f o) run) (sym (pow_16 s)) ∙ ap (λ t. edited_within (2 ^ (s + 4)) (part f t) run) p)
-
-pub node_anew : {T V Z : Type 0} (f : T → List (ℕ × V)) (s : ℕ) → ((x : T) → Rises 0 (16 * 2 ^ s) (f x)) → (xs : List (Option T)) (shift at : ℕ) (o w : Option T) (run : List (ℕ × Option (Arc V Z))) → shift ≡ s + 4 → at < 16 → length xs ≡ 16 → InPlace (2 ^ shift) at run → o ≡ item_at xs at → edited_within (16 * 2 ^ s) (part f w) run ≡ edited_within (16 * 2 ^ s) (part f o) run → edited_within (16 * 2 ^ (s + 4)) (entries_of f (2 ^ (s + 4)) (set xs at w)) run ≡ edited_within (16 * 2 ^ (s + 4)) (entries_of f (2 ^ (s + 4)) xs) run
-node_anew f s h xs shift at o w run e l n r p k =
-    of_anew f (2 ^ (s + 4)) (fits_16 f s h) (pow_pos (s + 4)) xs at run w l n (subst (λ t. InPlace (2 ^ t) at run) e r) (ap (λ m. edited_within m (part f w) run) (pow_16 s) ∙ k ∙ ap (λ m. edited_within m (part f o) run) (sym (pow_16 s)) ∙ ap (λ t. edited_within (2 ^ (s + 4)) (part f t) run) p)
 
 node_counts : (n m a b added removed : ℕ) → m + a ≡ n + b → Counts a b added removed → Counts n m added removed
 node_counts n m a b added removed h k = omega arith

@@ -1,13 +1,17 @@
 //! The levels of the tree: a leaf holds values, and a node holds nodes of the level below.
 
-ghost use Rattle.std.specs.Prelude.{◌≡◌, ℕ, ◌+◌, ◌*◌, ◌/◌, ◌%◌, ◌^◌, ◌<◌, ◌≤◌, List, [], length, take};
+ghost use Rattle.std.specs.Prelude.{◌≡◌, ℕ, ◌+◌, ◌*◌, ◌/◌, ◌%◌, ◌^◌, ◌<◌, ◌≤◌, List, [], length, take, drop};
 ghost use Rattle.std.specs.Prelude.{IfOk, OnOk, OnErr, IsSome, IfNone, IfSome, Some, None, Option};
 ghost use Rattle.std.specs.Prelude.{option_copied, option_map, true, cond, not, ◌&&◌};
 ghost use Rattle.std.specs.Arc.{arc_value};
 ghost use Rattle.radix_map.specs.Places.{item_at};
 ghost use Rattle.radix_map.specs.Entries.{value_at, edited, edited_within, Rises, part, leaf_map};
 ghost use Rattle.radix_map.specs.Entries.{node_map, block, InPlace, IsFirstRun, KeysFit, Counts};
+ghost use Rattle.radix_map.specs.Pending.{IsCarried};
 
+use crate::carry::carry_run;
+use crate::leaf_edits::edit_value;
+use crate::pending::Note;
 use crate::places::Places;
 use grid_core::Memory;
 use std::alloc::Global;
@@ -49,15 +53,12 @@ pub(crate) trait Level<V>: Drop {
         ensures { IfOk result (λ c. entries c ≡ entries self.now) };
 
     /// Each edit in turn. What nobody else holds is changed where it is, and what others hold is
-    /// copied. After want of memory some edits may be done: then all of them make of the entries
-    /// what they would have made before. One edit alone is done or leaves the entries.
+    /// copied. After want of memory any of several edits may be done, and one edit alone is not.
     fn edit(&mut self, alloc: Global, edits: &[Edit<V>], shift: u32) -> Result<Tally, Memory>
         requires level { shift ≡ bits }
         requires small { shift ≤ 28 }
         ensures ok { OnOk result
             (entries self.new ≡ edited_within (block bits) (entries self.old) edits.now) }
-        ensures err { OnErr result (edited_within (block bits) (entries self.new) edits.now
-            ≡ edited_within (block bits) (entries self.old) edits.now) }
         ensures alone { length edits.now ≤ 1
             → OnErr result (entries self.new ≡ entries self.old) }
         ensures counted { IfOk result (λ t. Counts (length (entries self.old))
@@ -65,6 +66,28 @@ pub(crate) trait Level<V>: Drop {
         ensures few { IfOk result
             (λ t. (t.added ≤ length edits.now) × (t.removed ≤ length edits.now)) }
         ensures fit { OnOk result (KeysFit edits.now) };
+
+    /// Carries the next `count` noted edits. What nobody else holds is changed where it is and takes
+    /// the values over, and what others hold is copied. After want of memory the first of them are
+    /// carried, and the others are noted still.
+    fn carry(
+        &mut self,
+        alloc: Global,
+        note: &mut Note<V>,
+        count: usize,
+        shift: u32,
+    ) -> Result<Tally, Memory>
+        requires level { shift ≡ bits }
+        requires small { shift ≤ 28 }
+        requires count { count ≤ length note.old }
+        ensures ok { OnOk result (entries self.new
+            ≡ edited_within (block bits) (entries self.old) (take count note.old)) }
+        ensures rest { OnOk result (note.new ≡ drop count note.old) }
+        ensures err { OnErr result (IsCarried (block bits) (entries self.old) (entries self.new)
+            count note.old note.new) }
+        ensures counted { IfOk result (λ t. Counts (length (entries self.old))
+            (length (entries self.new)) t.added t.removed) }
+        ensures few { IfOk result (λ t. (t.added ≤ count) × (t.removed ≤ count)) };
 
     ghost rises: { (x : Self) → Rises 0 (block bits) (entries x) };
 }
@@ -143,6 +166,29 @@ impl<V: Drop> Level<V> for Leaf<V> {
         Ok(tally)
     }
 
+    fn carry(
+        &mut self,
+        _alloc: Global,
+        note: &mut Note<V>,
+        count: usize,
+        _shift: u32,
+    ) -> Result<Tally, Memory> {
+        let mut tally = Tally {
+            added: 0,
+            removed: 0,
+        };
+        for _done in 0..count {
+            match note.carry_first(&mut self.places) {
+                Ok(one) => {
+                    tally.added += one.added;
+                    tally.removed += one.removed;
+                }
+                Err(refused) => return Err(refused),
+            }
+        }
+        Ok(tally)
+    }
+
     ghost rises = { λ x. leaf_rises x.places };
 }
 
@@ -197,6 +243,32 @@ impl<V: Drop, L: Level<V>> Level<V> for Node<L> {
         }
     }
 
+    fn carry(
+        &mut self,
+        alloc: Global,
+        note: &mut Note<V>,
+        count: usize,
+        shift: u32,
+    ) -> Result<Tally, Memory> {
+        let mut tally = Tally {
+            added: 0,
+            removed: 0,
+        };
+        let mut done = 0;
+        while done < count {
+            let (at, n) = first_run(&note.rest()[..count - done], shift);
+            match carry_run(&mut self.places, alloc, at, note, n, shift) {
+                Ok(one) => {
+                    tally.added += one.added;
+                    tally.removed += one.removed;
+                    done += n;
+                }
+                Err(refused) => return Err(refused),
+            }
+        }
+        Ok(tally)
+    }
+
     ghost rises = { λ x. node_rises L.entries L.bits L.rises x.places };
 }
 
@@ -236,6 +308,19 @@ fn next_run<'a, V>(edits: &'a [Edit<V>], shift: u32) -> Option<Run<'a, V>>
     })
 }
 
+// The place of the first edit, and how many edits from it on lie there.
+fn first_run<V>(edits: &[Edit<V>], shift: u32) -> (u32, usize)
+    requires small { shift ≤ 28 }
+    requires some { 0 < length edits.now }
+    ensures place { result.0 < 16 }
+    ensures within { InPlace (2 ^ shift) result.0 (take result.1 edits.now) }
+    ensures some { 0 < result.1 }
+    ensures few { result.1 ≤ length edits.now }
+{
+    let at = place(edits[0].0, shift);
+    (at, run_length(&edits[1..], at, shift) + 1)
+}
+
 // How many of the first edits lie in place `at`.
 fn run_length<V>(edits: &[Edit<V>], at: u32, shift: u32) -> usize
     requires { shift ≤ 28 }
@@ -249,47 +334,6 @@ fn run_length<V>(edits: &[Edit<V>], at: u32, shift: u32) -> usize
         }
     }
     edits.len()
-}
-
-// Sets or removes a value of a leaf.
-fn edit_value<V: Drop>(
-    places: &mut Places<V>,
-    key: u32,
-    value: &Option<Arc<V>>,
-) -> Result<Tally, Memory>
-    ensures ok { OnOk result (leaf_map places.new
-        ≡ edited (leaf_map places.old) (key % 16) (option_map arc_value value.now)) }
-    ensures err { OnErr result (places.new ≡ places.old) }
-    ensures counted { IfOk result (λ t. Counts (length (leaf_map places.old))
-        (length (leaf_map places.new)) t.added t.removed) }
-    ensures few { IfOk result (λ t. (t.added ≤ 1) × (t.removed ≤ 1)) }
-    ensures fits { key < 4294967296 }
-{
-    let at = key & 15;
-    let is_taken = places.get(at).is_some();
-    let item = share_value(value)?;
-    let is_set = item.is_some();
-    places.put(at, item)?;
-    Ok(Tally {
-        added: one_if(is_set, is_taken),
-        removed: one_if(is_taken, is_set),
-    })
-}
-
-// 1 where only the first holds.
-fn one_if(is: bool, other: bool) -> usize
-    ensures { result ≡ cond (is && not other) 1 0 }
-{
-    usize::from(is && !other)
-}
-
-pub(crate) fn share_value<V: Drop>(value: &Option<Arc<V>>) -> Result<Option<Arc<V>>, Memory>
-    ensures { IfOk result (λ o. option_map arc_value o ≡ option_map arc_value value.now) }
-{
-    match value {
-        Some(value) => Ok(Some(Arc::try_clone(value)?)),
-        None => Ok(None),
-    }
 }
 
 // Edits the child at one place, or makes one where there is none.
@@ -306,9 +350,6 @@ fn edit_run<V, L: Level<V>>(
     requires run { InPlace (2 ^ shift) at run.now }
     ensures ok { OnOk result (node_map L.entries L.bits places.new ≡ edited_within
         (block (L.bits + 4)) (node_map L.entries L.bits places.old) run.now) }
-    ensures err { OnErr result
-        (edited_within (block (L.bits + 4)) (node_map L.entries L.bits places.new) run.now
-        ≡ edited_within (block (L.bits + 4)) (node_map L.entries L.bits places.old) run.now) }
     ensures alone { length run.now ≤ 1 → OnErr result (node_map L.entries L.bits places.new
         ≡ node_map L.entries L.bits places.old) }
     ensures counted { IfOk result (λ t. Counts (length (node_map L.entries L.bits places.old))
@@ -338,9 +379,6 @@ fn edit_run_here<V, L: Level<V>>(
     requires run { InPlace (2 ^ shift) at run.now }
     ensures ok { OnOk result (node_map L.entries L.bits places.new ≡ edited_within
         (block (L.bits + 4)) (node_map L.entries L.bits places.old) run.now) }
-    ensures err { OnErr result
-        (edited_within (block (L.bits + 4)) (node_map L.entries L.bits places.new) run.now
-        ≡ edited_within (block (L.bits + 4)) (node_map L.entries L.bits places.old) run.now) }
     ensures alone { length run.now ≤ 1 → OnErr result (node_map L.entries L.bits places.new
         ≡ node_map L.entries L.bits places.old) }
     ensures counted { IfOk result (λ t. Counts (length (node_map L.entries L.bits places.old))
@@ -388,7 +426,7 @@ fn edit_run_anew<V, L: Level<V>>(
 }
 
 // Frees place `at` where its child is empty.
-fn drop_empty<V, L: Level<V>>(places: &mut Places<L>, at: u32)
+pub(crate) fn drop_empty<V, L: Level<V>>(places: &mut Places<L>, at: u32)
     requires { at < 16 }
     ensures { node_map L.entries L.bits places.new
         ≡ node_map L.entries L.bits places.old }
@@ -417,9 +455,6 @@ pub(crate) fn edit_shared<V, L: Level<V>>(
     requires level { shift ≡ L.bits }
     requires small { shift ≤ 28 }
     ensures ok { OnOk result (L.entries (arc_value node.new)
-        ≡ edited_within (block L.bits) (L.entries (arc_value node.old)) edits.now) }
-    ensures err { OnErr result
-        (edited_within (block L.bits) (L.entries (arc_value node.new)) edits.now
         ≡ edited_within (block L.bits) (L.entries (arc_value node.old)) edits.now) }
     ensures alone { length edits.now ≤ 1
         → OnErr result (L.entries (arc_value node.new) ≡ L.entries (arc_value node.old)) }

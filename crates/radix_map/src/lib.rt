@@ -22,8 +22,10 @@
 
 #![tactic(auto)]
 
+mod carry;
 mod entries;
 mod find;
+mod leaf_edits;
 mod level;
 mod map;
 mod pending;

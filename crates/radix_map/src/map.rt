@@ -11,7 +11,7 @@ pub(crate) mod stopped;
 use crate::entries::Entries;
 use crate::find::FindAll;
 use crate::level::{Edit, Level, ROOT_SHIFT, Root};
-use crate::pending::{edit_at, note, rise, set_value};
+use crate::pending::{Note, edit_at, rise, set_value};
 use grid_core::Memory;
 use std::alloc::Global;
 use std::marker::Model;
@@ -25,9 +25,9 @@ pub struct Map<V> {
     /// How many entries it has, with the edits that are noted.
     len: usize,
     root: Root<V>,
-    /// Edits by strictly rising key, of which the tree may lack some. They count before what it has.
-    /// There are none but where want of memory stopped `edit_all` on its way through the tree.
-    pending: Vec<Edit<V>>,
+    /// Edits that the tree lacks, by strictly rising key. They count before what it has. There are
+    /// none but where want of memory stopped `edit_all` on its way through the tree.
+    pending: Note<V>,
 }
 
 impl<V> Model for Map<V> {
@@ -37,9 +37,9 @@ impl<V> Model for Map<V> {
 
     ghost Value = { List (ℕ × V) };
 
-    ghost view = { λ m. edited_all (root_entries m.root) m.pending.items };
+    ghost view = { λ m. edited_all (root_entries m.root) m.pending };
 
-    ghost invariant = { λ m. IsKept m.len m.root m.pending.items };
+    ghost invariant = { λ m. IsKept m.len m.root m.pending };
 }
 
 impl<V: Drop> Map<V> {
@@ -51,7 +51,7 @@ impl<V: Drop> Map<V> {
             alloc,
             len: 0,
             root: Level::empty(alloc),
-            pending: Vec::new(alloc),
+            pending: Note::empty(alloc),
         }
     }
 
@@ -59,7 +59,7 @@ impl<V: Drop> Map<V> {
     pub fn get(&self, key: u32) -> Option<&V>
         ensures { option_copied result ≡ value_at key self.now }
     {
-        match edit_at(&self.pending, key) {
+        match edit_at(self.pending.rest(), key) {
             Some(value) => set_value(value),
             None => self.root.get(key, ROOT_SHIFT),
         }
@@ -76,7 +76,7 @@ impl<V: Drop> Map<V> {
     pub fn entries(&self) -> Entries<'_, V>
         ensures { result ≡ self.now }
     {
-        Entries::of(&self.root, &self.pending)
+        Entries::of(&self.root, self.pending.rest())
     }
 
     /// The values at the keys, in their order: `None` where the map has none. It is cheapest where
@@ -84,7 +84,7 @@ impl<V: Drop> Map<V> {
     pub fn find_all<'a>(&'a self, keys: &'a [u32]) -> FindAll<'a, V>
         ensures { result ≡ map (λ k. value_at k self.now) keys.now }
     {
-        FindAll::of(&self.root, &self.pending, keys)
+        FindAll::of(&self.root, self.pending.rest(), keys)
     }
 
     /// The map with the key set to the value.
@@ -108,13 +108,13 @@ impl<V: Drop> Map<V> {
     {
         let mut root = self.root.copy(self.alloc, edits.len())?;
         // What is noted comes first, and is part of `len` already.
-        root.edit(self.alloc, &self.pending, ROOT_SHIFT)?;
+        root.edit(self.alloc, self.pending.rest(), ROOT_SHIFT)?;
         let tally = root.edit(self.alloc, edits, ROOT_SHIFT)?;
         Ok(Map {
             alloc: self.alloc,
             len: self.len + tally.added - tally.removed,
             root,
-            pending: Vec::new(self.alloc),
+            pending: Note::empty(self.alloc),
         })
     }
 
@@ -139,7 +139,11 @@ impl<V: Drop> Map<V> {
         if self.pending.is_empty() {
             return;
         }
-        match self.root.edit(self.alloc, &self.pending, ROOT_SHIFT) {
+        let noted = self.pending.rest().len();
+        let carried = self
+            .root
+            .carry(self.alloc, &mut self.pending, noted, ROOT_SHIFT);
+        match carried {
             Ok(_) => self.pending.clear(),
             Err(_) => {}
         }
@@ -169,13 +173,17 @@ impl<V: Drop> Map<V> {
             *self = self.with_all(edits)?;
             return Ok(());
         }
-        note(&mut self.pending, edits)?;
-        match self.root.edit(self.alloc, edits, ROOT_SHIFT) {
+        self.pending.note(edits)?;
+        let noted = self.pending.rest().len();
+        let carried = self
+            .root
+            .carry(self.alloc, &mut self.pending, noted, ROOT_SHIFT);
+        match carried {
             Ok(tally) => {
                 self.pending.clear();
                 self.len = self.len + tally.added - tally.removed;
             }
-            Err(_) => self.len = count(&self.root, &self.pending),
+            Err(_) => self.len = count(&self.root, self.pending.rest()),
         }
         Ok(())
     }

@@ -1,12 +1,17 @@
 //! Edits that a map has noted, by strictly rising key: they count before what its tree has.
 
-ghost use Rattle.std.specs.Prelude.{◌≡◌, ◌+◌, ◌≤◌, ◌++◌, [], true, OnOk, OnErr, map, option_copied, option_map};
+ghost use Rattle.std.specs.Prelude.{◌≡◌, ◌+◌, ◌<◌, ◌≤◌, ◌++◌, [], true, IfOk, OnOk, OnErr, map, take};
+ghost use Rattle.std.specs.Prelude.{drop, length, option_copied, option_map};
 ghost use Rattle.std.specs.Arc.{arc_value};
-ghost use Rattle.radix_map.specs.Entries.{value_at, Rises};
+ghost use Rattle.radix_map.specs.Entries.{value_at, edited_within, leaf_map, Counts, Rises};
 ghost use Rattle.radix_map.specs.Pending.{told};
 
-use crate::level::{Edit, share_value};
+use crate::leaf_edits::{move_value, share_value};
+use crate::level::{Edit, Tally};
+use crate::places::Places;
 use grid_core::Memory;
+use std::alloc::Global;
+use std::marker::Model;
 use std::sync::Arc;
 
 /// Whether the keys rise strictly.
@@ -66,18 +71,101 @@ pub(crate) fn set_value<V>(value: &Option<Arc<V>>) -> Option<&V>
     }
 }
 
-/// Notes the edits where none are noted, and none of them after want of memory.
-pub(crate) fn note<V: Drop>(pending: &mut Vec<Edit<V>>, edits: &[Edit<V>]) -> Result<(), Memory>
-    requires { pending.old.items ≡ [] }
-    ensures ok { OnOk result (map told pending.new.items ≡ map told edits.now) }
-    ensures err { OnErr result (pending.new.items ≡ []) }
-{
-    match share_edits(pending, edits) {
-        Ok(()) => Ok(()),
-        Err(refused) => {
-            pending.clear();
-            Err(refused)
+/// Edits that a map has noted and not carried into its tree, by strictly rising key.
+#[derive(Drop)]
+pub(crate) struct Note<V> {
+    edits: Vec<Edit<V>>,
+    /// How many of them were carried: they have given their values away.
+    done: usize,
+}
+
+impl<V> Model for Note<V> {
+    ghost use Rattle.std.specs.Prelude.{ℕ, ◌≤◌, List, Option, length, drop};
+    ghost use Rattle.std.specs.Global.{Global};
+    ghost use Rattle.std.specs.declared.sync.Arc.{Arc};
+
+    ghost Value = { List (ℕ × Option (Arc V Global)) };
+
+    ghost view = { λ n. drop n.done n.edits.items };
+
+    ghost invariant = { λ n. n.done ≤ length n.edits.items };
+}
+
+impl<V: Drop> Note<V> {
+    pub(crate) fn empty(alloc: Global) -> Note<V>
+        ensures { result ≡ [] }
+    {
+        Note {
+            edits: Vec::new(alloc),
+            done: 0,
         }
+    }
+
+    /// No edit is left to carry.
+    #[inline(always)]
+    pub(crate) fn is_empty(&self) -> bool
+        ensures { result ≡ true → self.now ≡ [] }
+    {
+        self.rest().is_empty()
+    }
+
+    /// The edits that are not carried.
+    #[inline(always)]
+    pub(crate) fn rest(&self) -> &[Edit<V>]
+        ensures { result.now ≡ self.now }
+    {
+        &self.edits[self.done..]
+    }
+
+    /// The first `count` of them are no longer noted.
+    pub(crate) fn skip(&mut self, count: usize)
+        requires { count ≤ length self.old }
+        ensures { self.new ≡ drop count self.old }
+    {
+        self.done += count;
+    }
+
+    /// None is noted then. The room for them is kept.
+    pub(crate) fn clear(&mut self)
+        ensures { self.new ≡ [] }
+    {
+        self.edits.clear();
+        self.done = 0;
+    }
+
+    /// Notes the edits where none are noted, and none of them after want of memory.
+    pub(crate) fn note(&mut self, edits: &[Edit<V>]) -> Result<(), Memory>
+        requires { self.old ≡ [] }
+        ensures ok { OnOk result (map told self.new ≡ map told edits.now) }
+        ensures err { OnErr result (self.new ≡ []) }
+    {
+        self.edits.clear();
+        self.done = 0;
+        match share_edits(&mut self.edits, edits) {
+            Ok(()) => Ok(()),
+            Err(refused) => {
+                self.clear();
+                Err(refused)
+            }
+        }
+    }
+
+    /// Moves what the first edit sets into a leaf, or removes its key. It stays noted after want of
+    /// memory.
+    pub(crate) fn carry_first(&mut self, places: &mut Places<V>) -> Result<Tally, Memory>
+        requires some { 0 < length self.old }
+        ensures ok { OnOk result (leaf_map places.new
+            ≡ edited_within 16 (leaf_map places.old) (take 1 self.old)) }
+        ensures rest { OnOk result (self.new ≡ drop 1 self.old) }
+        ensures err { OnErr result (places.new ≡ places.old) }
+        ensures kept { OnErr result (self.new ≡ self.old) }
+        ensures counted { IfOk result (λ t. Counts (length (leaf_map places.old))
+            (length (leaf_map places.new)) t.added t.removed) }
+        ensures few { IfOk result (λ t. (t.added ≤ 1) × (t.removed ≤ 1)) }
+    {
+        let tally = move_value(places, &mut self.edits[self.done])?;
+        self.done += 1;
+        Ok(tally)
     }
 }
 

@@ -1,16 +1,19 @@
 //! The sixteen places of a node: a digit for each, and the items of the taken ones in order.
 
 ghost use Rattle.std.specs.Prelude.{◌≡◌, ℕ, ◌+◌, ◌/◌, ◌^◌, ◌<◌, ◌≤◌, ◌++◌, map, length, replicate};
-ghost use Rattle.std.specs.Prelude.{slice_set, IfNone, IfSome, IsSome, IfOk, OnOk, OnErr, Some, None};
-ghost use Rattle.std.specs.Prelude.{option_copied, option_map, true};
+ghost use Rattle.std.specs.Prelude.{slice_set, IfNone, IfSome, IsSome, IfOk, IfErr, OnOk, OnErr, Some, None};
+ghost use Rattle.std.specs.Prelude.{option_copied, option_map, true, take, drop};
 ghost use Rattle.std.specs.Arc.{arc_value};
 ghost use Rattle.std.specs.Int.{bit_at};
 ghost use Rattle.radix_map.specs.Entries.{edited_within, node_map, block, InPlace, Counts};
+ghost use Rattle.radix_map.specs.Pending.{IsCarried};
 ghost use Rattle.radix_map.specs.Places.{item_at, taken, digit_of, Replaces, IsNext, IsNextDigit};
 
+use crate::carry::carry_shared;
 use crate::level::{Edit, Level, Tally, edit_shared};
+use crate::pending::Note;
 use grid_core::Memory;
-use std::alloc::Global;
+use std::alloc::{AllocFailed, Global};
 use std::marker::Model;
 use std::sync::Arc;
 
@@ -105,7 +108,7 @@ impl<T: Drop> Places<T> {
         ensures err { OnErr result (self.new ≡ self.old) }
     {
         match item {
-            Some(item) => self.fill(at, item),
+            Some(item) => Ok(self.fill(at, item)?),
             None => {
                 self.clear(at);
                 Ok(())
@@ -131,9 +134,6 @@ impl<T: Drop> Places<T> {
         requires run { InPlace (2 ^ shift) at run.now }
         ensures ok { OnOk result (node_map T.entries T.bits self.new ≡ edited_within
             (block (T.bits + 4)) (node_map T.entries T.bits self.old) run.now) }
-        ensures err { OnErr result
-            (edited_within (block (T.bits + 4)) (node_map T.entries T.bits self.new) run.now
-            ≡ edited_within (block (T.bits + 4)) (node_map T.entries T.bits self.old) run.now) }
         ensures alone { length run.now ≤ 1 → OnErr result (node_map T.entries T.bits self.new
             ≡ node_map T.entries T.bits self.old) }
         ensures counted { IfOk result (λ t. Counts (length (node_map T.entries T.bits self.old))
@@ -145,10 +145,44 @@ impl<T: Drop> Places<T> {
         edit_shared(&mut self.items[low], alloc, run, shift - 4)
     }
 
-    fn fill(&mut self, at: u32, item: Arc<T>) -> Result<(), Memory>
+    /// Carries the next `count` noted edits, which all go to place `at`, into the child there where
+    /// it is, or into a copy of it where others hold it.
+    pub(crate) fn carry_child<V: Drop>(
+        &mut self,
+        alloc: Global,
+        at: u32,
+        note: &mut Note<V>,
+        count: usize,
+        shift: u32,
+    ) -> Result<Tally, Memory>
+    where
+        T: Level<V>,
+        requires level { shift ≡ T.bits + 4 }
+        requires small { shift ≤ 28 }
+        requires at { at < 16 }
+        requires taken { IsSome (item_at self.old at) }
+        requires count { count ≤ length note.old }
+        requires run { InPlace (2 ^ shift) at (take count note.old) }
+        ensures ok { OnOk result (node_map T.entries T.bits self.new ≡ edited_within
+            (block (T.bits + 4)) (node_map T.entries T.bits self.old) (take count note.old)) }
+        ensures rest { OnOk result (note.new ≡ drop count note.old) }
+        ensures err { OnErr result (IsCarried (block (T.bits + 4))
+            (node_map T.entries T.bits self.old) (node_map T.entries T.bits self.new)
+            count note.old note.new) }
+        ensures counted { IfOk result (λ t. Counts (length (node_map T.entries T.bits self.old))
+            (length (node_map T.entries T.bits self.new)) t.added t.removed) }
+        ensures few { IfOk result (λ t. (t.added ≤ count) × (t.removed ≤ count)) }
+    {
+        let low = rank(self.digits, at);
+        carry_shared(&mut self.items[low], alloc, note, count, shift - 4)
+    }
+
+    /// Place `at` has `item` then. Want of memory gives it back.
+    pub(crate) fn fill(&mut self, at: u32, item: Arc<T>) -> Result<(), AllocFailed<Arc<T>>>
         requires { at < 16 }
         ensures ok { OnOk result (self.new ≡ slice_set self.old at (Some (arc_value item))) }
         ensures err { OnErr result (self.new ≡ self.old) }
+        ensures returned { IfErr result (λ e. e.value ≡ item) }
     {
         let low = rank(self.digits, at);
         if digit(self.digits, at) == 0 {

@@ -5,7 +5,7 @@ ghost use Rattle.radix_map.specs.Entries.{edited_all};
 
 use super::{Map, count};
 use crate::level::Edit;
-use crate::pending::{note, rise};
+use crate::pending::rise;
 use grid_core::Memory;
 
 /// The map after edits by strictly rising key, none of which its tree has.
@@ -16,7 +16,7 @@ pub(crate) fn stopped<V: Drop>(map: Map<V>, edits: &[Edit<V>]) -> Result<Map<V>,
     if !map.pending.is_empty() || !rise(edits) {
         return map.with_all(edits);
     }
-    note(&mut map.pending, edits)?;
-    map.len = count(&map.root, &map.pending);
+    map.pending.note(edits)?;
+    map.len = count(&map.root, map.pending.rest());
     Ok(map)
 }

@@ -1,7 +1,6 @@
 use Rattle.std.proofs.Common.{◌+◌, [], ◌∷◌, suc, drop, ap, sym, ◌∙◌, subst, arith, add-one}
-use Rattle.radix_map.specs.Entries.{entries_of, single, edited_within}
-use Rattle.radix_map.specs.Rising.{leaf_rises}
-use Rattle.radix_map.proofs.Carried.{Carried, carried_none, carried_more, carried_anew, carried_alone, next_edit, one_within}
+use Rattle.radix_map.specs.Entries.{entries_of, single}
+use Rattle.radix_map.proofs.Carried.{Carried, carried_none, carried_more, carried_alone, next_edit, one_within}
 use Rattle.radix_map.proofs.level.LeafLevel.edit.Goals as goal
 
 pub loop-edit-init : goal.loop-edit-init
@@ -19,14 +18,6 @@ loop-edit-preserved g c =
     let one = c.in-Ok.one in
     let did = c.in-Ok.ensures in
     subst (λ n. Carried 16 es next edits (drop n edits) (t.added + one.added) (t.removed + one.removed)) (sym (add-one i)) (carried_more 16 es now next edits (drop i edits) (e ∷ []) (drop (suc i) edits) t.added t.removed one.added one.removed c.loop-edit.invariant (next_edit edits i e c.loop-edit-test.true c.edit-item.is) (did.fits, tt) (did.ok ∙ sym (one_within 16 now e)) did.counted did.few.0 did.few.1)
-
-pub returns-in-Err-clause-err : goal.returns-in-Err-clause-err
-returns-in-Err-clause-err g c =
-    let edits = c.args.edits.now in
-    let i = c.loop-edit.edit-index in
-    let e = c.edit-item.result in
-    let t = c.loop-edit.tally in
-    carried_anew 16 (entries_of single 1 c.args.self.now.places) (entries_of single 1 c.loop-edit.self.places) (entries_of single 1 c.edit_value.new.places) edits (drop i edits) (e ∷ []) (drop (suc i) edits) t.added t.removed (omega arith) (leaf_rises c.args.self.now.places) (leaf_rises c.edit_value.new.places) c.loop-edit.invariant (next_edit edits i e c.loop-edit-test.true c.edit-item.is) (ap (λ ys. edited_within 16 (entries_of single 1 ys) (e ∷ [])) c.in-Err.ensures.err)
 
 pub returns-in-Err-clause-alone : goal.returns-in-Err-clause-alone
 returns-in-Err-clause-alone g c = λ n.

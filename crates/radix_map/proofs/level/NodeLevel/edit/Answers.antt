@@ -1,8 +1,6 @@
-use Rattle.std.proofs.Common.{◌+◌, ◌*◌, ◌^◌, arith}
+use Rattle.std.proofs.Common.{◌+◌, ◌*◌, ◌^◌}
 use Rattle.radix_map.specs.Entries.{entries_of}
-use Rattle.radix_map.specs.Rising.{node_rises}
-use Rattle.radix_map.proofs.Digits.{pow_pos}
-use Rattle.radix_map.proofs.Carried.{carried_none, carried_more, carried_anew, carried_alone}
+use Rattle.radix_map.proofs.Carried.{carried_none, carried_more, carried_alone}
 use Rattle.radix_map.proofs.level.NodeLevel.edit.Goals as goal
 
 pub loop-run-init : goal.loop-run-init
@@ -17,15 +15,6 @@ loop-run-preserved g c =
     let first = c.in-Some.ensures.some in
     let did = c.in-Ok.ensures in
     carried_more (16 * step) (entries_of f step c.args.self.now.places) (entries_of f step c.loop-run.self.places) (entries_of f step c.edit_run.new.places) c.args.edits.now c.loop-run.rest.now c.in-Some.run'.edits.now c.in-Some.run'.rest.now c.loop-run.tally.added c.loop-run.tally.removed c.in-Ok.one.added c.in-Ok.one.removed c.loop-run.invariant first.all first.fit did.ok did.counted did.few.0 did.few.1
-
-pub returns-in-Err-clause-err : goal.returns-in-Err-clause-err
-returns-in-Err-clause-err g c =
-    let f = g.L.Level.entries in
-    let s = g.L.Level.bits in
-    let step = 2 ^ (s + 4) in
-    let some = pow_pos (s + 4) in
-    let rises = node_rises f s g.met.L.Level.rises in
-    carried_anew (16 * step) (entries_of f step c.args.self.now.places) (entries_of f step c.loop-run.self.places) (entries_of f step c.edit_run.new.places) c.args.edits.now c.loop-run.rest.now c.in-Some.run'.edits.now c.in-Some.run'.rest.now c.loop-run.tally.added c.loop-run.tally.removed (omega arith) (rises c.args.self.now.places) (rises c.edit_run.new.places) c.loop-run.invariant c.in-Some.ensures.some.all c.in-Err.ensures.err
 
 pub returns-in-Err-clause-alone : goal.returns-in-Err-clause-alone
 returns-in-Err-clause-alone g c = λ n.

@@ -8,11 +8,11 @@ pub returns-in-Some : goal.returns-in-Some
 returns-in-Some g c =
     let m = c.self.inside in
     let key = c.args.key in
-    found_set m.root key m.pending.items c.in-Some.value.now (option_copied c.set_value.result) c.self.invariant.rise (c.in-Some.ensures ∙ ap (value_at key) c.deref.ensures.value) c.set_value.ensures ∙ ap (value_at key) c.self.view_is
+    found_set m.root key m.pending c.in-Some.value.now (option_copied c.set_value.result) c.self.invariant.rise (c.in-Some.ensures ∙ ap (value_at key) c.rest.ensures) c.set_value.ensures ∙ ap (value_at key) c.self.view_is
 
 pub returns-in-None : goal.returns-in-None
 returns-in-None g c =
     let m = c.self.inside in
     let key = c.args.key in
     let tree : option_copied c.get.result ≡ value_at key (root_entries m.root) = search rules in
-    found_below m.root key m.pending.items (option_copied c.get.result) c.self.invariant.rise (c.in-None.ensures ∙ ap (value_at key) c.deref.ensures.value) tree ∙ ap (value_at key) c.self.view_is
+    found_below m.root key m.pending (option_copied c.get.result) c.self.invariant.rise (c.in-None.ensures ∙ ap (value_at key) c.rest.ensures) tree ∙ ap (value_at key) c.self.view_is

@@ -7,29 +7,29 @@ use Rattle.radix_map.proofs.map.Map.with_all.Goals as goal
 pub overflow_add-result : goal.overflow_add-result
 overflow_add-result g c =
     let m = c.self.inside in
-    let before = ap length (root_edited c.in_ok-root.root c.edit.new.self m.root c.deref.result.now m.pending.items c.deref.ensures.value c.in_ok-edit.ensures.fit c.in_ok-root.ensures c.in_ok-edit.ensures.ok) in
+    let before = ap length (root_edited c.in_ok-root.root c.edit.new.self m.root c.rest.result.now m.pending c.rest.ensures c.in_ok-edit.ensures.fit c.in_ok-root.ensures c.in_ok-edit.ensures.ok) in
     let size = root_size c.edit.new.self in
     omega (arith, c.self.invariant.counted, c.in_ok-tally.ensures.few)
 
 pub overflow_sub-result : goal.overflow_sub-result
 overflow_sub-result g c =
     let m = c.self.inside in
-    let before = ap length (root_edited c.in_ok-root.root c.edit.new.self m.root c.deref.result.now m.pending.items c.deref.ensures.value c.in_ok-edit.ensures.fit c.in_ok-root.ensures c.in_ok-edit.ensures.ok) in
+    let before = ap length (root_edited c.in_ok-root.root c.edit.new.self m.root c.rest.result.now m.pending c.rest.ensures c.in_ok-edit.ensures.fit c.in_ok-root.ensures c.in_ok-edit.ensures.ok) in
     omega (arith, c.self.invariant.counted, c.in_ok-tally.ensures.counted)
 
 pub invariant_of-result : goal.invariant_of-result
 invariant_of-result g c =
     let m = c.self.inside in
-    let before = ap length (root_edited c.in_ok-root.root c.edit.new.self m.root c.deref.result.now m.pending.items c.deref.ensures.value c.in_ok-edit.ensures.fit c.in_ok-root.ensures c.in_ok-edit.ensures.ok) in
-    let after = ap length (no_edits (root_entries c.edit-2.new.self) c.new.result.items c.new.ensures.items) in
+    let before = ap length (root_edited c.in_ok-root.root c.edit.new.self m.root c.rest.result.now m.pending c.rest.ensures c.in_ok-edit.ensures.fit c.in_ok-root.ensures c.in_ok-edit.ensures.ok) in
+    let after = ap length (no_edits (root_entries c.edit-2.new.self) c.empty.result c.empty.ensures) in
     record {
       counted = omega (arith, c.self.invariant.counted, c.in_ok-tally.ensures.counted);
-      rise = none_rise c.new.result.items c.new.ensures.items;
+      rise = none_rise c.empty.result c.empty.ensures;
     }
 
 pub returns : goal.returns
 returns g c =
     let m = c.self.inside in
     let edits = c.args.edits.now in
-    let before = root_edited c.in_ok-root.root c.edit.new.self m.root c.deref.result.now m.pending.items c.deref.ensures.value c.in_ok-edit.ensures.fit c.in_ok-root.ensures c.in_ok-edit.ensures.ok in
-    no_edits (root_entries c.edit-2.new.self) c.new.result.items c.new.ensures.items ∙ root_edited c.edit.new.self c.edit-2.new.self c.edit.new.self edits edits refl c.in_ok-tally.ensures.fit refl c.in_ok-tally.ensures.ok ∙ ap (λ es. edited_all es edits) (before ∙ c.self.view_is)
+    let before = root_edited c.in_ok-root.root c.edit.new.self m.root c.rest.result.now m.pending c.rest.ensures c.in_ok-edit.ensures.fit c.in_ok-root.ensures c.in_ok-edit.ensures.ok in
+    no_edits (root_entries c.edit-2.new.self) c.empty.result c.empty.ensures ∙ root_edited c.edit.new.self c.edit-2.new.self c.edit.new.self edits edits refl c.in_ok-tally.ensures.fit refl c.in_ok-tally.ensures.ok ∙ ap (λ es. edited_all es edits) (before ∙ c.self.view_is)

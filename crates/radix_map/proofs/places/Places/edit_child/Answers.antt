@@ -2,7 +2,7 @@ use Rattle.std.proofs.Common.{◌≡◌, ◌+◌, ◌^◌, sym, ◌∙◌, subst
 use Rattle.std.proofs.lemmas.List.{length-map}
 use Rattle.std.specs.Arc.{arc_value}
 use Rattle.radix_map.specs.Places.{item_at, taken}
-use Rattle.radix_map.proofs.Edits.{item_changed, change_ok, change_anew, change_err, change_counted, taken_digit}
+use Rattle.radix_map.proofs.Edits.{item_changed, change_ok, change_err, change_counted, taken_digit}
 use Rattle.radix_map.proofs.places.Places.edit_child.Goals as goal
 
 pub index_mut-requires : goal.index_mut-requires
@@ -23,14 +23,6 @@ returns-clause-ok g c =
     let new = c.edit_shared.new.node in
     let change = item_changed arc_value c.args.at p.digits c.rank-low.result p.items.items old new c.args.self.now c.self.view_is c.self.invariant c.requires.at c.requires.taken c.rank-low.ensures.value c.index_mut.ensures.value in
     change_ok c.edit_shared.result g.T.Level.entries g.T.Level.bits g.met.T.Level.rises c.args.self.now _ c.args.shift c.args.at (arc_value old) (arc_value new) c.args.run.now c.requires.level c.requires.at c.requires.run change c.edit_shared.ensures.ok
-
-pub returns-clause-err : goal.returns-clause-err
-returns-clause-err g c =
-    let p = c.self.inside in
-    let old = c.index_mut.result.now in
-    let new = c.edit_shared.new.node in
-    let change = item_changed arc_value c.args.at p.digits c.rank-low.result p.items.items old new c.args.self.now c.self.view_is c.self.invariant c.requires.at c.requires.taken c.rank-low.ensures.value c.index_mut.ensures.value in
-    change_anew c.edit_shared.result g.T.Level.entries g.T.Level.bits g.met.T.Level.rises c.args.self.now _ c.args.shift c.args.at (arc_value old) (arc_value new) c.args.run.now c.requires.level c.requires.at c.requires.run change c.edit_shared.ensures.err
 
 pub returns-clause-alone : goal.returns-clause-alone
 returns-clause-alone g c = λ n.
