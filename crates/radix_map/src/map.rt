@@ -120,7 +120,9 @@ impl<V: Drop> Map<V> {
 
     /// Each edit in turn, in place of this map: `Some` sets its key, and `None` removes it. Where
     /// the keys rise strictly, each node that nobody else holds is changed where it is. Maps that
-    /// share nodes with this one stay as they are, and after want of memory this one does too.
+    /// share nodes with this one stay as they are, and where the answer is `Memory` this one does
+    /// too. Where memory is wanting only once the edits are noted, the answer is `Ok`, and the next
+    /// call carries on.
     pub fn edit_all(&mut self, edits: &[(u32, Option<Arc<V>>)]) -> Result<(), Memory>
         ensures ok { OnOk result (self.new ≡ edited_all self.old edits.now) }
         ensures err { OnErr result (self.new ≡ self.old) }

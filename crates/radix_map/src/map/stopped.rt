@@ -8,7 +8,7 @@ use crate::level::Edit;
 use crate::pending::rise;
 use grid_core::Memory;
 
-/// The map after edits by strictly rising key, none of which its tree has.
+/// The map after edits, none of which its tree has; where their keys don't rise, all of which it has.
 pub(crate) fn stopped<V: Drop>(map: Map<V>, edits: &[Edit<V>]) -> Result<Map<V>, Memory>
     ensures { IfOk result (λ m. m ≡ edited_all map edits.now) }
 {
