@@ -39,6 +39,7 @@ pub(crate) fn share_value<V: Drop>(value: &Option<Arc<V>>) -> Result<Option<Arc<
 
 /// Moves the value that an edit sets into a leaf's places, or removes its key. After want of memory
 /// both are as before.
+#[inline(always)]
 pub(crate) fn move_value<V: Drop>(
     places: &mut Places<V>,
     edit: &mut Edit<V>,
@@ -69,6 +70,7 @@ fn one_if(is: bool, other: bool) -> usize
 }
 
 // Place `at` has the item then, and is free where there is none. Want of memory leaves both.
+#[inline(always)]
 fn move_item<T: Drop>(
     places: &mut Places<T>,
     at: u32,
