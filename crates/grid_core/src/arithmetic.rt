@@ -7,7 +7,7 @@ use crate::Point;
 
 /// `a * b`, of factors up to 2^40 in size.
 #[inline(always)]
-pub fn product(a: i64, b: i64) -> i128
+fn product(a: i64, b: i64) -> i128
     requires left { unsigned_abs a ≤ 2 ^ 40 }
     requires right { unsigned_abs b ≤ 2 ^ 40 }
     ensures value { result ≡ a *ℤ b }
@@ -28,7 +28,7 @@ pub fn sum(a: i128, b: i128) -> i128
 
 /// `a - b`, of numbers up to 2^120 in size.
 #[inline(always)]
-pub fn difference(a: i128, b: i128) -> i128
+fn difference(a: i128, b: i128) -> i128
     requires left { unsigned_abs a ≤ 2 ^ 120 }
     requires right { unsigned_abs b ≤ 2 ^ 120 }
     ensures { result ≡ a -ℤ b }

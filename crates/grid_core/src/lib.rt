@@ -17,7 +17,7 @@ mod profile;
 mod segment;
 mod side;
 
-pub use arithmetic::{cross, difference, dot, offset, product, sum, vector};
+pub use arithmetic::{cross, dot, offset, sum, vector};
 pub use edge::Edge;
 pub use laws::{
     bundles_are_of_routes, edges_are_of_routes, hot_pixels_are_counted, meets_where_a_point_lies,
