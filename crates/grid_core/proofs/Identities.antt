@@ -24,7 +24,7 @@ cross-minus d a b =
     same_polynomial (d.x ∷ d.y ∷ a.x ∷ a.y ∷ b.x ∷ b.y ∷ [])
     (V 0 ⊗ (V 3 ⊖ V 5) ⊖ V 1 ⊗ (V 2 ⊖ V 4)) ((V 0 ⊗ V 3 ⊖ V 1 ⊗ V 2) ⊖ (V 0 ⊗ V 5 ⊖ V 1 ⊗ V 4)) refl
 
--- seen from a, the turn from p to q is the turn from p to a, seen from any other point on the line
+-- a has one orientation to p and q, measured from p or from q
 pub cross-moved : (p q a : Point) → cross_of (minus q p) (minus a p) ≡ cross_of (minus q p) (minus a q)
 cross-moved p q a =
     same_polynomial (p.x ∷ p.y ∷ q.x ∷ q.y ∷ a.x ∷ a.y ∷ [])

@@ -9,5 +9,7 @@ use Rattle.grid_core.specs.Segment.{Segment, direction}
 -- left of the line from p to q, on it, or right of it
 abbrev pub side_at : Segment → Point → Side
 side_at s h =
-    let turn = cross_of (direction s) (minus h s.p) in
-    if int_lt (pos 0) turn then Left else if int_lt turn (pos 0) then Right else On
+    let orientation = cross_of (direction s) (minus h s.p) in
+    if int_lt (pos 0) orientation then Left
+    else if int_lt orientation (pos 0) then Right
+    else On

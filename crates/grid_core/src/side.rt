@@ -21,10 +21,10 @@ pub fn side_of(s: &Ur, at: Point) -> Side
     requires { IsWithin (2 ^ 39) at }
     ensures { result ≡ side_at s.now at }
 {
-    let turn = turn(s, at);
-    if turn > 0 {
+    let orientation = orientation(s, at);
+    if orientation > 0 {
         Side::Left
-    } else if turn < 0 {
+    } else if orientation < 0 {
         Side::Right
     } else {
         Side::On
@@ -33,7 +33,7 @@ pub fn side_of(s: &Ur, at: Point) -> Side
 
 /// The cross product of the direction of `s` and the way from `p` to `at`. Below 2^81.
 #[inline(always)]
-fn turn(s: &Ur, at: Point) -> i128
+fn orientation(s: &Ur, at: Point) -> i128
     requires { IsWithin (2 ^ 39) at }
     ensures { result ≡ cross_of (direction s.now) (minus at s.now.p) }
 {
