@@ -1,3 +1,5 @@
+//! Edges between grid points.
+
 use crate::Point;
 use std::cmp::Ordering;
 use std::marker::Model;

@@ -1,3 +1,5 @@
+//! Names of segments: an editor from 1 to 64, and a serial number from 1 on.
+
 ghost use Rattle.std.specs.Prelude.{◌≡◌, ◌↔◌, IsNone, IfSome};
 ghost use Rattle.grid_core.specs.Name.{IsLabel, IsNoName};
 

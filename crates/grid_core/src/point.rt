@@ -1,3 +1,5 @@
+//! Points of the integer grid, and the hot pixels of a rounding with their counts.
+
 /// A grid point, or the direction between two. As a pixel it is the unit square around the point:
 ///
 /// ```text

@@ -1,3 +1,5 @@
+//! The sizes of a drawing: how far its coordinates reach, and how wide its tiles are.
+
 ghost use Rattle.std.specs.Prelude.{◌≡◌, pos};
 ghost use Rattle.grid_core.specs.Profile.{IsProfile};
 

@@ -1,3 +1,5 @@
+//! Segments of a drawing: a name and two different ends.
+
 ghost use Rattle.std.specs.Prelude.{◌↔◌, ◌≤◌, ◌^◌, unsigned_abs, IsTrue, IsFalse};
 ghost use Rattle.grid_core.specs.Vector.{IsWithin, IsOutside};
 

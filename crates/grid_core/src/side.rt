@@ -1,3 +1,5 @@
+//! The side of a segment on which a point lies, by the sign of a cross product.
+
 ghost use Rattle.std.specs.Prelude.{◌≡◌, ◌^◌};
 ghost use Rattle.grid_core.specs.Vector.{IsWithin, cross_of, minus};
 ghost use Rattle.grid_core.specs.Segment.{direction};
