@@ -8,7 +8,8 @@ use Rattle.grid_core.specs.Segment.{Segment}
 use Rattle.grid_core.specs.Name.{Label, label_cmp}
 use Rattle.grid_core.specs.Edge.{EdgeEnds, edge_eq}
 use Rattle.grid_core.specs.Meets.{meets_pixel_of}
-use Rattle.grid_core.specs.Rounding.{end_points, crossing_pixels, ends_at, crossings_at, hot, route, route_edges, edges, HotIsCounted, RouteIsMet, bundle, EdgesAreOfRoutes, BundleIsOfRoutes}
+use Rattle.grid_core.specs.Rounding.{end_points, crossing_pixels, ends_at, crossings_at, hot, route, route_edges, edges, bundle}
+use Rattle.grid_core.specs.Laws.{HotIsCounted, RouteIsMet, EdgesAreOfRoutes, BundleIsOfRoutes}
 use Rattle.grid_core.proofs.ListMembers.{counted_iff, contains_filter, any_filter, any_then, contains_map, sorted_filter, contains_flat_map}
 use Rattle.grid_core.proofs.Order.{point_total, point_exact, edge_total, edge_exact}
 use Rattle.grid_core.proofs.RouteOrder.{along_total, contains_by_product}

@@ -11,8 +11,8 @@ use Rattle.std.proofs.lemmas.List.Elements.{Contains-append_left}
 use Rattle.grid_core.specs.declared.point.Point.{Point}
 use Rattle.grid_core.specs.Segment.{Segment, direction}
 use Rattle.grid_core.specs.Vector.{dot_of}
-use Rattle.grid_core.specs.Rounding.{along_cmp, end_points, crossing_pixels, hot, route, RouteIsMet}
-use Rattle.grid_core.specs.Laws.{RouteRunsFromPToQ}
+use Rattle.grid_core.specs.Rounding.{along_cmp, end_points, crossing_pixels, hot, route}
+use Rattle.grid_core.specs.Laws.{RouteIsMet, RouteRunsFromPToQ}
 use Rattle.grid_core.proofs.AlongSegments.{meets_p, meets_q, beyond_p, short_of_q}
 use Rattle.grid_core.proofs.ListMembers.{contains_first, contains_later, contains_cases, contains_flat_map}
 use Rattle.grid_core.proofs.Order.{point_total, point_exact}

@@ -1,16 +1,16 @@
--- The snap rounding of a live list, from nothing: hot pixels with their counts, routes, edges and bundles.
--- After Guibas and Marimont, "Rounding Arrangements Dynamically" (1995, 1998), and Hobby, "Practical Segment
--- Intersection with Finite Precision Output" (1999). Half-open pixels, and touches that count as crossings,
--- are this project's own.
-use Rattle.std.specs.Prelude.{◌≡◌, ℕ, ◌+◌, ◌<◌, ◌↔◌, IsTrue, List, [], ◌∷◌, ◌++◌, Contains, Any, map, filter, count_by, filter_map, flat_map, zip, drop, option_map, Option}
+-- The snap rounding of a live list, from nothing: hot pixels with their counts, routes, edges and
+-- bundles. After Guibas and Marimont, "Rounding Arrangements Dynamically" (1995, 1998), and Hobby,
+-- "Practical Segment Intersection with Finite Precision Output" (1999). Half-open pixels, and
+-- touches that count as crossings, are this project's own.
+use Rattle.std.specs.Prelude.{ℕ, List, [], ◌∷◌, ◌++◌, map, filter, count_by}
+use Rattle.std.specs.Prelude.{filter_map, flat_map, zip, drop, option_map, Option}
 use Rattle.std.specs.List.{list_any}
-use Rattle.std.specs.List.Sorted.{IsStrictlySortedBy}
 use Rattle.std.specs.declared.cmp.Ordering.{Ordering}
 use Rattle.std.specs.Ordering.{int_cmp}
 use Rattle.grid_core.specs.declared.point.Point.{Point}
 use Rattle.grid_core.specs.declared.point.Vertex.{Vertex}
 use Rattle.grid_core.specs.Vector.{point_cmp, point_eq, dot_of}
-use Rattle.grid_core.specs.Name.{Label, label_cmp}
+use Rattle.grid_core.specs.Name.{Label}
 use Rattle.grid_core.specs.Segment.{Segment, direction}
 use Rattle.grid_core.specs.Edge.{EdgeEnds, edge_cmp, edge_eq, edge_between}
 use Rattle.grid_core.specs.LiveList.{names}
@@ -95,26 +95,3 @@ rounding_of ss =
       vertices = map (vertex_at ss) (hot ss);
       edges = map (λ e. record { edge = e; names = bundle ss e }) (edges ss);
     }
-
--- a pixel is hot exactly where the sum of its two counts is above 0;
--- hot pixels stand in order, each once
-pub record HotIsCounted (ss : List Segment) : Type 0 where
-  pub counted : (h : Point) → Contains (hot ss) h ↔ (0 < ends_at ss h + crossings_at ss h)
-  pub in_order : IsStrictlySortedBy point_cmp (hot ss)
-
--- the route of s has exactly the hot pixels that s meets; they stand in order along s, each once
-pub record RouteIsMet (ss : List Segment) (s : Segment) : Type 0 where
-  pub met : (h : Point) → Contains (route ss s) h ↔ (Contains (hot ss) h × IsTrue (meets_pixel_of s h))
-  pub in_order : IsStrictlySortedBy (along_cmp s) (route ss s)
-
--- the edges are exactly those of the segments' routes; they stand in order, each once
-pub record EdgesAreOfRoutes (ss : List Segment) : Type 0 where
-  pub of_routes : (e : EdgeEnds) → Contains (edges ss) e ↔ Any (λ s. Contains (route_edges ss s) e) ss
-  pub in_order : IsStrictlySortedBy edge_cmp (edges ss)
-
--- a bundle has exactly the names of the segments whose routes have e;
--- where the names rise in ss, they rise in it
-pub record BundleIsOfRoutes (ss : List Segment) (e : EdgeEnds) : Type 0 where
-  pub of_routes : (name : Label)
-      → Contains (bundle ss e) name ↔ Any (λ s. (s.name ≡ name) × Contains (route_edges ss s) e) ss
-  pub in_order : IsStrictlySortedBy label_cmp (names ss) → IsStrictlySortedBy label_cmp (bundle ss e)

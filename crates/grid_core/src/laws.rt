@@ -2,10 +2,9 @@
 //! A call gives its caller the law, and does nothing when it runs.
 
 ghost use Rattle.std.specs.Prelude.{Contains};
-ghost use Rattle.grid_core.specs.Laws.{MeetsWhereAPointLies};
-ghost use Rattle.grid_core.specs.Laws.{ProductsTellPixelsApart, RouteRunsFromPToQ};
-ghost use Rattle.grid_core.specs.Rounding.{HotIsCounted, RouteIsMet};
-ghost use Rattle.grid_core.specs.Rounding.{EdgesAreOfRoutes, BundleIsOfRoutes};
+ghost use Rattle.grid_core.specs.Laws.{MeetsWhereAPointLies, ProductsTellPixelsApart};
+ghost use Rattle.grid_core.specs.Laws.{HotIsCounted, RouteIsMet, RouteRunsFromPToQ};
+ghost use Rattle.grid_core.specs.Laws.{EdgesAreOfRoutes, BundleIsOfRoutes};
 
 use crate::{Edge, PixelBox, Ur};
 
