@@ -1,6 +1,7 @@
 -- Where two segments cross, as fractions of whole numbers, and the pixel of such a point.
 -- Shared ends and touches are crossings; parallel segments have none.
-use Rattle.std.specs.Prelude.{ℤ, pos, ◌+ℤ◌, ◌-ℤ◌, ◌*ℤ◌, int_lt, int_le, Bool, ◌&&◌, if◌then◌else◌, Option, Some, None}
+use Rattle.std.specs.Prelude.{ℤ, pos, ◌+ℤ◌, ◌-ℤ◌, ◌*ℤ◌, int_lt, int_le}
+use Rattle.std.specs.Prelude.{Bool, ◌&&◌, if◌then◌else◌, Option, Some, None}
 use Rattle.std.specs.Int.{int_div_euclid}
 use Rattle.grid_core.specs.declared.point.Point.{Point}
 use Rattle.grid_core.specs.Vector.{cross_of, minus}
@@ -25,7 +26,8 @@ point_along s u den =
       den = den;
     }
 
--- the point of s at the parameter u / den, where that and the parameter v / den of the other segment are from 0 to 1
+-- the point of s at the parameter u / den, where that and the parameter v / den of the other segment
+-- are from 0 to 1
 abbrev pub within_both : Segment → ℤ → ℤ → ℤ → Option RationalPoint
 within_both s u v den = if is_part u den && is_part v den then Some (point_along s u den) else None
 

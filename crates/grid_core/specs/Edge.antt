@@ -17,7 +17,10 @@ IsEdge e = point_cmp e.a e.b ≡ Less
 
 -- the edge between two different points, given in either order
 abbrev pub edge_between : Point → Point → EdgeEnds
-edge_between u v = if is_lt (point_cmp u v) then record { a = u; b = v } else record { a = v; b = u }
+edge_between u v =
+    if is_lt (point_cmp u v)
+    then record { a = u; b = v }
+    else record { a = v; b = u }
 
 -- by lesser end, and at one lesser end by greater end
 abbrev pub edge_cmp : EdgeEnds → EdgeEnds → Ordering

@@ -1,6 +1,7 @@
 -- When a segment meets a box of pixels.
 -- A pixel has its left and its lower side, and not its right and its upper one.
-use Rattle.std.specs.Prelude.{ℕ, ◌≤ℤ◌, ℤ, pos, ◌+ℤ◌, ◌-ℤ◌, ◌*ℤ◌, int_lt, int_le, Bool, true, false, not, ◌&&◌, ◌||◌, if◌then◌else◌, List, [], ◌∷◌}
+use Rattle.std.specs.Prelude.{ℕ, ◌≤ℤ◌, ℤ, pos, ◌+ℤ◌, ◌-ℤ◌, ◌*ℤ◌, int_lt, int_le}
+use Rattle.std.specs.Prelude.{Bool, true, false, not, ◌&&◌, ◌||◌, if◌then◌else◌, List, [], ◌∷◌}
 use Rattle.std.specs.List.{list_all}
 use Rattle.grid_core.specs.declared.point.Point.{Point}
 use Rattle.grid_core.specs.declared.pixel_box.PixelBox.{PixelBox}
@@ -30,10 +31,26 @@ abbrev pub constraints : Segment → PixelBox → List Constraint
 constraints s area =
     record { a = pos 0; b = pos 1; strict = false }
     ∷ record { a = pos 1; b = pos 0 -ℤ pos 1; strict = false }
-    ∷ record { a = pos 2 *ℤ s.p.x -ℤ pos 2 *ℤ area.lo.x +ℤ pos 1; b = pos 2 *ℤ (direction s).x; strict = false }
-    ∷ record { a = pos 2 *ℤ area.hi.x +ℤ pos 1 -ℤ pos 2 *ℤ s.p.x; b = pos 0 -ℤ pos 2 *ℤ (direction s).x; strict = true }
-    ∷ record { a = pos 2 *ℤ s.p.y -ℤ pos 2 *ℤ area.lo.y +ℤ pos 1; b = pos 2 *ℤ (direction s).y; strict = false }
-    ∷ record { a = pos 2 *ℤ area.hi.y +ℤ pos 1 -ℤ pos 2 *ℤ s.p.y; b = pos 0 -ℤ pos 2 *ℤ (direction s).y; strict = true }
+    ∷ record {
+      a = pos 2 *ℤ s.p.x -ℤ pos 2 *ℤ area.lo.x +ℤ pos 1;
+      b = pos 2 *ℤ (direction s).x;
+      strict = false;
+    }
+    ∷ record {
+      a = pos 2 *ℤ area.hi.x +ℤ pos 1 -ℤ pos 2 *ℤ s.p.x;
+      b = pos 0 -ℤ pos 2 *ℤ (direction s).x;
+      strict = true;
+    }
+    ∷ record {
+      a = pos 2 *ℤ s.p.y -ℤ pos 2 *ℤ area.lo.y +ℤ pos 1;
+      b = pos 2 *ℤ (direction s).y;
+      strict = false;
+    }
+    ∷ record {
+      a = pos 2 *ℤ area.hi.y +ℤ pos 1 -ℤ pos 2 *ℤ s.p.y;
+      b = pos 0 -ℤ pos 2 *ℤ (direction s).y;
+      strict = true;
+    }
     ∷ []
 
 -- a constraint that t doesn't bear on holds for its a
@@ -43,7 +60,9 @@ holds_alone c = int_lt c.b (pos 0) || int_lt (pos 0) c.b || is_kept c.strict c.a
 -- where c bounds t from below and e from above, some t meets both
 abbrev pub leave_room : Constraint → Constraint → Bool
 leave_room c e =
-    not (int_lt (pos 0) c.b) || not (int_lt e.b (pos 0)) || is_kept (c.strict || e.strict) (e.a *ℤ c.b -ℤ c.a *ℤ e.b)
+    not (int_lt (pos 0) c.b)
+    || not (int_lt e.b (pos 0))
+    || is_kept (c.strict || e.strict) (e.a *ℤ c.b -ℤ c.a *ℤ e.b)
 
 -- some point of the segment, ends included, lies in the box
 abbrev pub meets_of : Segment → PixelBox → Bool
