@@ -1,7 +1,9 @@
 -- The test of a segment against a box by bounding boxes and corners.
--- Corners are given by twice their coordinates, which are whole: the box's left side is at (2 lo.x
--- - 1) / 2.
-use Rattle.std.specs.Prelude.{ℤ, pos, ◌+ℤ◌, ◌-ℤ◌, ◌*ℤ◌, int_lt, int_le, Bool, true, not, ◌&&◌, if◌then◌else◌}
+-- Corners are given by twice their coordinates, which are whole: the box's left side is at
+-- lo.x - 1/2, and is given as 2 lo.x - 1.
+use Rattle.std.specs.Prelude.{ℤ, pos, ◌+ℤ◌, ◌-ℤ◌, ◌*ℤ◌, int_lt, int_le}
+use Rattle.std.specs.Prelude.{Bool, true, not, ◌&&◌, if◌then◌else◌}
+use Rattle.std.specs.Int.{int_min, int_max}
 use Rattle.grid_core.specs.declared.point.Point.{Point}
 use Rattle.grid_core.specs.declared.pixel_box.PixelBox.{PixelBox}
 use Rattle.grid_core.specs.Vector.{cross_of, minus}
@@ -14,9 +16,7 @@ shares_columns_of left right area = int_le left area.hi.x && int_le area.lo.x ri
 -- the rows from a to b, given in either order, share one with the box
 abbrev pub shares_rows_of : ℤ → ℤ → PixelBox → Bool
 shares_rows_of a b area =
-    if int_lt b a
-    then int_le b area.hi.y && int_le area.lo.y a
-    else int_le a area.hi.y && int_le area.lo.y b
+    int_le (int_min a b) area.hi.y && int_le area.lo.y (int_max a b)
 
 -- the box of the pixels of both ends overlaps the box
 abbrev pub overlaps_of : Segment → PixelBox → Bool

@@ -11,8 +11,8 @@ ghost use Rattle.pixel_test.specs.Corners.{straddles_rising_of, straddles_fallin
 
 use grid_core::{PixelBox, Point, Ur, cross, vector};
 
-/// Whether some point of the segment, ends included, lies in the box. The box's coordinates are at
-/// most 2^31 in size.
+/// Whether some point of the segment, ends included, lies in the box. In the box `lo` isn't past
+/// `hi` in either coordinate, and both are at most 2^31 in size.
 #[inline]
 pub fn meets(s: &Ur, area: &PixelBox) -> bool
     requires { IsBox (2 ^ 31) area.now }
