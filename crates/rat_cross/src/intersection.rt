@@ -23,11 +23,12 @@ pub fn crossing(s: &Ur, t: &Ur) -> Option<Cross>
     }
     let d = direction_between(s.p(), s.q());
     let e = direction_between(t.p(), t.q());
-    let den = turn(d, e);
+    let den = directions_cross(d, e);
     if den > 0 {
         common_point(s, direction_between(s.p(), t.p()), d, e, den)
     } else if den < 0 {
-        common_point(s, direction_between(t.p(), s.p()), d, e, turn(e, d))
+        let size = directions_cross(e, d);
+        common_point(s, direction_between(t.p(), s.p()), d, e, size)
     } else {
         None
     }
@@ -90,7 +91,7 @@ fn direction_between(from: Point, to: Point) -> Point
 
 /// The cross product of two directions. At most 2^63 in size.
 #[inline(always)]
-fn turn(d: Point, e: Point) -> i128
+fn directions_cross(d: Point, e: Point) -> i128
     requires first { IsWithin (2 ^ 31) d }
     requires second { IsWithin (2 ^ 31) e }
     ensures value { result ≡ cross_of d e }
@@ -110,11 +111,11 @@ fn common_point(s: &Ur, w: Point, d: Point, e: Point, den: i128) -> Option<Cross
     requires small { unsigned_abs den ≤ 2 ^ 63 }
     ensures { result ≡ within_both s.now (cross_of w e) (cross_of w d) den }
 {
-    let u = turn(w, e);
+    let u = directions_cross(w, e);
     if !is_part_of(u, den) {
         return None;
     }
-    if !is_part_of(turn(w, d), den) {
+    if !is_part_of(directions_cross(w, d), den) {
         return None;
     }
     Some(point_at(s, u, den))
@@ -158,7 +159,7 @@ fn along(p: i64, q: i64, u: i128, den: i128) -> i128
     sum(scaled(den, p), scaled(u, offset(p, q)))
 }
 
-/// `a * b`. Below 2^96 in size.
+/// `a * b`. At most 2^94 in size.
 #[inline(always)]
 fn scaled(a: i128, b: i64) -> i128
     requires left { unsigned_abs a ≤ 2 ^ 63 }

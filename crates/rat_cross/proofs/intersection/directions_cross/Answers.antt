@@ -1,7 +1,7 @@
 use Rattle.std.proofs.Common.{rules, ◌≤◌, ◌^◌, unsigned_abs, SFits, to_z-of_z, sym, subst}
 use mir.Syntax.{w128}
 use Rattle.grid_core.proofs.Sizes.{cross_within}
-use Rattle.rat_cross.proofs.intersection.turn.Goals as goal
+use Rattle.rat_cross.proofs.intersection.directions_cross.Goals as goal
 
 pub returns-clause-small : goal.returns-clause-small
 returns-clause-small c =
