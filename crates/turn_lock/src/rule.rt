@@ -21,7 +21,9 @@ pub(crate) const BOOK: usize = 0;
 /// What the table is told once: how many passes it can have, and the book at the start.
 #[derive(Drop)]
 pub struct Opening<B> {
+    /// How many passes the turn can have.
     pub seats: u32,
+    /// The book at the start, for contracts alone.
     pub book: Snapshot<B>,
 }
 

@@ -75,7 +75,8 @@ pub(crate) fn mark_history<B: Counted, W: Told<B::Entry>>(
     ensures seen { let v = known place.new in
         v ≡ marked v.stage (B.history book.now) (known place.old) }
 {
-    // The front stays below 2^32, since the length of a history is a `u32`.
+    // Called for its clause alone: the length of a history is a `u32`, so the front stays below
+    // 2^32.
     book.marks();
     // `front`, `fetch_add` by 1 or 0: the view has seen the whole history. This step is the
     // linearization point of what the caller did with the book.

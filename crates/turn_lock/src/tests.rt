@@ -1,4 +1,4 @@
-//! The rows on one thread, and threads that take turns.
+//! Worked examples on one thread, and threads that take turns.
 mod rows;
 mod tally;
 mod threads;

@@ -28,13 +28,15 @@ pub struct Turn<B: Counted> {
 
 /// The book while a pass has it. It is not `Drop`: end it by `leave`, or all others wait for good.
 pub struct Held<B: Counted> {
+    /// The book itself. Before `mark` its history may grow by one entry, and after it by none.
     pub book: B,
     /// The book at `enter`, and from `mark` on the book at `mark`, for contracts alone.
     pub kept: Snapshot<B>,
 }
 
 impl<B: Counted> Turn<B> {
-    /// A turn for `seats` passes, and the first of them, from which the others are split.
+    /// A turn for `seats` passes, and the first of them, from which the others are split. `seats`
+    /// is at least 1, and the book has no history yet. After `Memory` the book is given up.
     pub fn open(alloc: Global, book: B, seats: u32) -> Result<(Turn<B>, Pass<B>), Memory>
         requires seats { 1 ≤ seats }
         requires empty { B.history book ≡ [] }
@@ -108,7 +110,7 @@ impl<B: Counted> Turn<B> {
         give_back(&self.table.shared, &mut pass.place, book);
     }
 
-    /// A new pass, which has seen what `pass` has, and has added nothing.
+    /// A new pass, which has seen what `pass` has, and has added nothing. `pass` must have room.
     pub fn split(&self, pass: &mut Pass<B>) -> Pass<B>
         requires own { pass.old.place.table_id ≡ self.now.table.shared.table_id }
         requires room { 0 < (known pass.old.place).room }

@@ -5,11 +5,13 @@ use std::collections::LinkedList;
 /// The view of a lock pass, for contracts alone: no value of it is made. In a clause its numbers
 /// are natural numbers without an end, and its lists are lists.
 pub struct View<E> {
+    /// Which of the passes of its turn this is, counted from 0.
     pub number: u64,
     /// How many passes the turn can have.
     pub seats: u64,
     /// How many passes can still be split from this one.
     pub room: u64,
+    /// How far the pass has come with its turn.
     pub stage: Stage,
     /// The label that the book has.
     pub label: LinkedList<i64>,
@@ -19,8 +21,9 @@ pub struct View<E> {
     pub mine: LinkedList<E>,
     /// The whole history, while the pass has the book.
     pub journal: LinkedList<E>,
-    /// What the two passes had seen that were joined last.
+    /// What this pass had seen when another was last joined into it.
     pub one: LinkedList<E>,
+    /// What that other pass had seen.
     pub other: LinkedList<E>,
     /// The numbers and the calls of the passes that were joined into this one.
     pub ended: LinkedList<(u64, LinkedList<E>)>,

@@ -1,4 +1,4 @@
-//! The worked rows, on one thread.
+//! Worked examples, on one thread.
 ghost use Rattle.std.specs.Prelude.{◌≡◌, [], IfOk};
 ghost use Rattle.turn_lock.specs.Pass.{known, IsIdle, IsReady, IsStill};
 
@@ -42,7 +42,7 @@ pub(super) fn look<R: Wait>(
     Ok(entries?)
 }
 
-/// The turn and its two passes after row `lock_split`, and what the first of them has seen.
+/// The turn and its two passes after `lock_split`, and what the first of them has seen.
 #[derive(Drop)]
 struct Split {
     turn: Turn<Tally>,
