@@ -108,7 +108,7 @@ pub(crate) fn unite<B: Counted>(top: &Top<B>, place: &mut Place<B>, other: Place
     ensures joined { known place.new ≡ joined (known place.old) (known other) }
     ensures room { (known place.new).room < (known place.new).seats }
     ensures seen { IsPrefix (known place.old).seen (known place.new).seen }
-    ensures seen_too { IsPrefix (known other).seen (known place.new).seen }
+    ensures seen_by_other { IsPrefix (known other).seen (known place.new).seen }
 {
     // The seats are joined: the view has the longer list, and keeps both.
     top.join_seat::<JoinIn>(place, other);

@@ -2,7 +2,7 @@
 ghost use Rattle.std.specs.Prelude.{◌≡◌, ◌<◌, ◌≤◌, [], IfOk};
 ghost use Rattle.turn_lock.specs.History.{IsPrefix, calls, GrowsBy};
 ghost use Rattle.turn_lock.specs.View.{lowered, split_from, joined, marked, first_view};
-ghost use Rattle.turn_lock.specs.Pass.{IsSized, known, IsIdle, IsReady};
+ghost use Rattle.turn_lock.specs.Pass.{IsSized, known, taken, IsIdle, IsReady};
 ghost use Rattle.turn_lock.specs.Pass.{Holds, HoldsMarked, Stays};
 ghost use Rattle.turn_lock.specs.Turn.{HasAll, IsLast};
 
@@ -115,7 +115,8 @@ impl<B: Counted> Turn<B> {
         requires own { pass.old.place.table_id ≡ self.now.table.shared.table_id }
         requires room { 0 < (known pass.old.place).room }
         ensures own { pass.new.place.table_id ≡ pass.old.place.table_id }
-        ensures room { pass.new.place.me ≡ (lowered (known pass.old.place), pass.old.place.me.1) }
+        ensures room { pass.new.place.me
+            ≡ (lowered (known pass.old.place), taken pass.old.place) }
         ensures ready { IsReady result.place self.now.table.shared.table_id }
         ensures new { known result.place ≡ split_from (known pass.old.place) }
     {
@@ -139,7 +140,7 @@ impl<B: Counted> Turn<B> {
         ensures joined { let v = known pass.old.place in
             known pass.new.place ≡ joined v (known other.place) }
         ensures seen { IsPrefix (known pass.old.place).seen (known pass.new.place).seen }
-        ensures seen_too { IsPrefix (known other.place).seen (known pass.new.place).seen }
+        ensures seen_by_other { IsPrefix (known other.place).seen (known pass.new.place).seen }
     {
         let Pass {
             place,
