@@ -1,9 +1,16 @@
--- What the calls of a turn ask of a pass, and what is known of the book that a turn gives in the end.
+-- Which turn it is, what its calls ask of a pass, and what is known of the book that it gives in the
+-- end.
 use Rattle.std.specs.Prelude.{◌≡◌, ℕ, ◌-◌, ◌<◌, ◌⊎◌, List, ℤ}
 use mathlib.Core.Option.{some}
 use lib.ListN.{get_elem?}
+use Rattle.atomic_table.specs.Seated.{TableId}
+use Rattle.turn_lock.specs.declared.turn.Turn.{Turn}
 use Rattle.turn_lock.specs.declared.view.View.{View}
 use Rattle.turn_lock.specs.History.{IsPrefix, calls}
+
+-- which turn this is: the id of its words and its slot
+abbrev pub turn_id : {B E : Type 0} → Turn B E → TableId
+turn_id t = t.table.shared.table_id
 
 module _ {E : Type 0} where
   -- the pass n was joined into the pass with this view, and its calls were es

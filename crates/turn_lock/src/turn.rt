@@ -4,7 +4,6 @@ ghost use Rattle.turn_lock.specs.History.{IsPrefix, calls, GrowsBy};
 ghost use Rattle.turn_lock.specs.View.{lowered, split_from, joined, marked, first_view};
 ghost use Rattle.turn_lock.specs.Pass.{IsSized, known, taken, IsIdle, IsReady};
 ghost use Rattle.turn_lock.specs.Pass.{Holds, HoldsMarked, Stays};
-ghost use Rattle.turn_lock.specs.Turn.{HasAll, IsLast};
 
 use crate::counted::Counted;
 use crate::pass::Pass;
@@ -21,7 +20,7 @@ use std::sync::Wait;
 /// A book that one pass at a time has, in the order in which they drew. Threads share it by `&`.
 #[derive(Drop)]
 pub struct Turn<B: Counted> {
-    /// The words and the slot. Clauses name the turn by its id.
+    /// The words and the slot. Clauses tell turns apart by the id of these (`turn_id`).
     pub table: Words<B>,
     ghost sized: { IsSized table.shared.table_id },
 }
@@ -35,12 +34,14 @@ pub struct Held<B: Counted> {
 }
 
 impl<B: Counted> Turn<B> {
+    ghost use Rattle.turn_lock.specs.Turn.{turn_id, HasAll, IsLast};
+
     /// A turn for `seats` passes, and the first of them, from which the others are split. `seats`
     /// is at least 1, and the book has no history yet. After `Memory` the book is given up.
     pub fn open(alloc: Global, book: B, seats: u32) -> Result<(Turn<B>, Pass<B>), Memory>
         requires seats { 1 ≤ seats }
         requires empty { B.history book ≡ [] }
-        ensures ready { IfOk result (λ t. IsReady t.1.place t.0.table.shared.table_id) }
+        ensures ready { IfOk result (λ t. IsReady t.1.place (turn_id t.0)) }
         ensures first { IfOk result (λ t. known t.1.place ≡ first_view seats (B.label book)) }
     {
         let about = Opening {
@@ -63,7 +64,7 @@ impl<B: Counted> Turn<B> {
 
     /// Waits until the turn of `pass` comes, and gives it the book.
     pub fn enter(&self, rt: &impl Wait, pass: &mut Pass<B>) -> Held<B>
-        requires { IsReady pass.old.place self.now.table.shared.table_id }
+        requires { IsReady pass.old.place (turn_id self.now) }
         ensures stays { Stays pass.old.place pass.new.place }
         ensures holds { Holds pass.new.place (B.history result.book) }
         ensures seen { IsPrefix (known pass.old.place).seen (B.history result.book) }
@@ -81,7 +82,7 @@ impl<B: Counted> Turn<B> {
     /// Tells that the history has grown by one entry of `pass` where `up`, and that it is as it
     /// was where not. The pass has then seen all of it.
     pub fn mark(&self, pass: &mut Pass<B>, held: &mut Held<B>, up: bool)
-        requires own { pass.old.place.table_id ≡ self.now.table.shared.table_id }
+        requires own { pass.old.place.table_id ≡ turn_id self.now }
         requires holds { Holds pass.old.place (B.history held.old.kept.value) }
         requires grows { let v = known pass.old.place in
             let kept = B.history held.old.kept.value in
@@ -99,7 +100,7 @@ impl<B: Counted> Turn<B> {
 
     /// Gives the book back as it was at `mark`, and passes the turn on.
     pub fn leave(&self, pass: &mut Pass<B>, held: Held<B>)
-        requires own { pass.old.place.table_id ≡ self.now.table.shared.table_id }
+        requires own { pass.old.place.table_id ≡ turn_id self.now }
         requires holds { HoldsMarked pass.old.place (B.history held.kept.value) }
         requires history { B.history held.book ≡ B.history held.kept.value }
         requires label { B.label held.book ≡ (known pass.old.place).label }
@@ -112,12 +113,12 @@ impl<B: Counted> Turn<B> {
 
     /// A new pass, which has seen what `pass` has, and has added nothing. `pass` must have room.
     pub fn split(&self, pass: &mut Pass<B>) -> Pass<B>
-        requires own { pass.old.place.table_id ≡ self.now.table.shared.table_id }
+        requires own { pass.old.place.table_id ≡ turn_id self.now }
         requires room { 0 < (known pass.old.place).room }
         ensures own { pass.new.place.table_id ≡ pass.old.place.table_id }
         ensures room { pass.new.place.me
             ≡ (lowered (known pass.old.place), taken pass.old.place) }
-        ensures ready { IsReady result.place self.now.table.shared.table_id }
+        ensures ready { IsReady result.place (turn_id self.now) }
         ensures new { known result.place ≡ split_from (known pass.old.place) }
     {
         let place = self.table.shared.split_seat::<SplitOff>(&mut pass.place);
@@ -134,9 +135,9 @@ impl<B: Counted> Turn<B> {
     /// Ends the pass `other`. `pass` has then seen what either had seen, and keeps the calls of
     /// `other` beside its own.
     pub fn join(&self, pass: &mut Pass<B>, other: Pass<B>)
-        requires ready { IsReady pass.old.place self.now.table.shared.table_id }
-        requires other { IsReady other.place self.now.table.shared.table_id }
-        ensures ready { IsReady pass.new.place self.now.table.shared.table_id }
+        requires ready { IsReady pass.old.place (turn_id self.now) }
+        requires other { IsReady other.place (turn_id self.now) }
+        ensures ready { IsReady pass.new.place (turn_id self.now) }
         ensures joined { let v = known pass.old.place in
             known pass.new.place ≡ joined v (known other.place) }
         ensures seen { IsPrefix (known pass.old.place).seen (known pass.new.place).seen }
@@ -154,7 +155,7 @@ impl<B: Counted> Turn<B> {
 
     /// Ends the turn with the last pass, and gives the book.
     pub fn close(self, pass: Pass<B>) -> B
-        requires ready { IsReady pass.place self.table.shared.table_id }
+        requires ready { IsReady pass.place (turn_id self) }
         requires all { HasAll (known pass.place) }
         ensures { IsLast B.history B.author B.label (known pass.place) result }
     {

@@ -1,6 +1,7 @@
 //! Worked examples, on one thread.
 ghost use Rattle.std.specs.Prelude.{◌≡◌, [], IfOk};
 ghost use Rattle.turn_lock.specs.Pass.{known, IsIdle, IsReady, IsStill};
+ghost use Rattle.turn_lock.specs.Turn.{turn_id};
 
 use super::tally::Tally;
 use crate::{Pass, Turn};
@@ -11,7 +12,7 @@ use std::test::Fail;
 
 /// Adds one value in a turn of `pass`, and says whether it was added.
 pub(super) fn add<R: Wait>(rt: &R, turn: &Turn<Tally>, pass: &mut Pass<Tally>, value: u64) -> bool
-    requires { IsReady pass.old.place turn.now.table.shared.table_id }
+    requires { IsReady pass.old.place (turn_id turn.now) }
     ensures idle { IsIdle pass.new.place }
     ensures still { IsStill pass.old.place pass.new.place }
 {
@@ -29,7 +30,7 @@ pub(super) fn look<R: Wait>(
     turn: &Turn<Tally>,
     pass: &mut Pass<Tally>,
 ) -> Result<Vec<(u32, u64)>, Memory>
-    requires { IsReady pass.old.place turn.now.table.shared.table_id }
+    requires { IsReady pass.old.place (turn_id turn.now) }
     ensures idle { IsIdle pass.new.place }
     ensures still { IsStill pass.old.place pass.new.place }
     ensures mine { (known pass.new.place).mine ≡ (known pass.old.place).mine }
@@ -52,8 +53,8 @@ struct Split {
 }
 
 fn split_and_look<R: Wait>(rt: &R, alloc: Global) -> Result<Split, Memory>
-    ensures first { IfOk result (λ s. IsReady s.first.place s.turn.table.shared.table_id) }
-    ensures second { IfOk result (λ s. IsReady s.second.place s.turn.table.shared.table_id) }
+    ensures first { IfOk result (λ s. IsReady s.first.place (turn_id s.turn)) }
+    ensures second { IfOk result (λ s. IsReady s.second.place (turn_id s.turn)) }
     ensures seats { IfOk result (λ s. (known s.first.place).seats ≡ 2) }
     ensures numbers { IfOk result (λ s. ((known s.first.place).number ≡ 0)
         × ((known s.second.place).number ≡ 1)) }

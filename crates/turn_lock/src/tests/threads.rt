@@ -1,6 +1,7 @@
 //! Threads that add numbers of their own: in the end each thread's numbers stand in their order.
 ghost use Rattle.std.specs.Prelude.{◌≡◌, ℕ, ◌+◌, ◌^◌, ◌<◌, ◌≤◌, IfOk, vec_len, slice_index_or};
 ghost use Rattle.turn_lock.specs.Pass.{known, IsIdle, IsReady, IsStill};
+ghost use Rattle.turn_lock.specs.Turn.{turn_id};
 
 use super::rows::{add, look};
 use super::tally::Tally;
@@ -22,7 +23,7 @@ fn add_each<R: Wait>(
     first: u64,
     count: u64,
 ) -> Pass<Tally>
-    requires ready { IsReady pass.place turn.now.table.shared.table_id }
+    requires ready { IsReady pass.place (turn_id turn.now) }
     requires few { first + count < 2 ^ 64 }
     ensures idle { IsIdle result.place }
     ensures still { IsStill pass.place result.place }
@@ -69,11 +70,11 @@ fn split_off(
     first: &mut Pass<Tally>,
     count: u32,
 ) -> Result<Vec<Pass<Tally>>, Memory>
-    requires ready { IsReady first.old.place turn.now.table.shared.table_id }
+    requires ready { IsReady first.old.place (turn_id turn.now) }
     requires room { count ≤ (known first.old.place).room }
-    ensures ready { IsReady first.new.place turn.now.table.shared.table_id }
+    ensures ready { IsReady first.new.place (turn_id turn.now) }
     ensures each { IfOk result (λ v. (i : ℕ) (d : _) → i < vec_len v →
-        IsReady (slice_index_or v.items i d).place turn.now.table.shared.table_id) }
+        IsReady (slice_index_or v.items i d).place (turn_id turn.now)) }
 {
     let mut passes = Vec::new(alloc);
     for _split in 0..count {
@@ -89,13 +90,13 @@ fn run_each<R: Threads + Wait + Sync>(
     passes: Vec<Pass<Tally>>,
 ) -> Result<(), Memory>
     requires { (i : ℕ) (d : _) → i < vec_len passes →
-        IsReady (slice_index_or passes.items i d).place turn.now.table.shared.table_id }
+        IsReady (slice_index_or passes.items i d).place (turn_id turn.now) }
 {
     thread::map_vec(
         rt,
         passes,
         &|pass: Pass<Tally>| -> ()
-            requires { IsReady pass.place turn.now.table.shared.table_id }
+            requires { IsReady pass.place (turn_id turn.now) }
         {
             let first = u64::from(pass.number()) * 250;
             add_each(rt, turn, pass, first, 250);
