@@ -4,6 +4,7 @@
 
 ghost use Rattle.std.specs.Prelude.{◌≡◌, ℕ, ◌<◌, ◌≤◌, IfOk, vec_len, slice_index_or};
 ghost use Rattle.turn_lock.specs.Pass.{known, IsReady};
+ghost use Rattle.turn_lock.specs.Turn.{turn_id};
 
 mod counter;
 
@@ -20,8 +21,8 @@ const MOST_THREADS: u32 = 64;
 
 /// Takes `rounds` turns.
 fn take_turns<R: Wait>(rt: &R, turn: &Turn<Counter>, pass: &mut Pass<Counter>, rounds: u32)
-    requires { IsReady pass.old.place turn.now.table.shared.table_id }
-    ensures { IsReady pass.new.place turn.now.table.shared.table_id }
+    requires { IsReady pass.old.place (turn_id turn.now) }
+    ensures { IsReady pass.new.place (turn_id turn.now) }
 {
     for _round in 0..rounds {
         let mut held = turn.enter(rt, pass);
@@ -38,11 +39,11 @@ fn split_off(
     first: &mut Pass<Counter>,
     count: u32,
 ) -> Result<Vec<Pass<Counter>>, Memory>
-    requires ready { IsReady first.old.place turn.now.table.shared.table_id }
+    requires ready { IsReady first.old.place (turn_id turn.now) }
     requires room { count ≤ (known first.old.place).room }
-    ensures ready { IsReady first.new.place turn.now.table.shared.table_id }
+    ensures ready { IsReady first.new.place (turn_id turn.now) }
     ensures each { IfOk result (λ v. (i : ℕ) (d : _) → i < vec_len v →
-        IsReady (slice_index_or v.items i d).place turn.now.table.shared.table_id) }
+        IsReady (slice_index_or v.items i d).place (turn_id turn.now)) }
 {
     let mut passes = Vec::new(alloc);
     for _split in 0..count {
@@ -59,13 +60,13 @@ fn run_all<R: Threads + Wait + Sync>(
     rounds: u32,
 ) -> Result<(), Memory>
     requires { (i : ℕ) (d : _) → i < vec_len passes →
-        IsReady (slice_index_or passes.items i d).place turn.now.table.shared.table_id }
+        IsReady (slice_index_or passes.items i d).place (turn_id turn.now) }
 {
     thread::map_vec(
         rt,
         passes,
         &|mut pass: Pass<Counter>| -> ()
-            requires { IsReady pass.place turn.now.table.shared.table_id }
+            requires { IsReady pass.place (turn_id turn.now) }
         { take_turns(rt, turn, &mut pass, rounds) },
     )?;
     Ok(())

@@ -1,10 +1,12 @@
 use Rattle.std.proofs.Common.{ℕ, ◌+◌, ◌<◌, ◌≤◌, vec_len, slice_index_or}
-use Rattle.turn_lock.specs.Pass.{IsReady}
+use Rattle.turn_lock.specs.Pass.{known, IsReady}
+use Rattle.turn_lock.specs.Turn.{turn_id}
 use Rattle.bench_lock.proofs.split_off.Given as goal
 
 abbrev pub invariant-loop-split : goal.invariant-loop-split
 invariant-loop-split l = record {
-  ready : IsReady l.first.place l.turn.table.shared.table_id;
-  room : l.count ≤ l.first.place.me.0.room + l._split;
-  each : (i : ℕ) (d : _) → i < vec_len l.passes → IsReady (slice_index_or l.passes.items i d).place l.turn.table.shared.table_id;
+  ready : IsReady l.first.place (turn_id l.turn);
+  room : l.count ≤ (known l.first.place).room + l._split;
+  each : (i : ℕ) (d : _) → i < vec_len l.passes
+      → IsReady (slice_index_or l.passes.items i d).place (turn_id l.turn);
 }
