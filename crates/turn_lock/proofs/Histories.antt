@@ -1,5 +1,8 @@
 -- Histories: prefixes of one list, and the entries that name a number.
-use Rattle.std.proofs.Common.{◌≡◌, ◌≢◌, ℕ, suc, ◌+◌, ◌<◌, ◌≤◌, eqb, ltb, Bool, true, false, cond, ◌⊎◌, inl, inr, ⊎_elim, List, [], ◌∷◌, ◌++◌, length, drop, sym, refl, ap, ◌∙◌, subst, arith, append_assoc, append-nil, length-append, eq-eqb, ne_eqb, ltb-true, ltb-false}
+use Rattle.std.proofs.Common.{◌≡◌, ◌≢◌, ℕ, suc, ◌+◌, ◌<◌, ◌≤◌, eqb, ltb, Bool, true, false, cond}
+use Rattle.std.proofs.Common.{◌⊎◌, inl, inr, ⊎_elim, List, [], ◌∷◌, ◌++◌, length, drop, sym, refl}
+use Rattle.std.proofs.Common.{ap, ◌∙◌, subst, arith, append_assoc, append-nil, length-append}
+use Rattle.std.proofs.Common.{eq-eqb, ne_eqb, ltb-true, ltb-false}
 use Rattle.std.proofs.lemmas.List.{nil_from_length}
 use Rattle.std.proofs.lemmas.List.Elements.{filter-append}
 use mathlib.Core.Option.{some}
@@ -35,14 +38,18 @@ module _ {A : Type 0} where
   prefix_between xs ys zs h k l = overlap xs h.0 ys k.0 (sym h.1 ∙ k.1) l
 
   pub longer_within : (xs ys zs : List A) → IsPrefix xs zs → IsPrefix ys zs → IsPrefix (longer xs ys) zs
-  longer_within xs ys zs h k = elim (ltb (length xs) (length ys)) as (λ b. IsPrefix (cond b ys xs) zs) [ true ↦ k | false ↦ h ]
+  longer_within xs ys zs h k =
+      elim (ltb (length xs) (length ys)) as (λ b. IsPrefix (cond b ys xs) zs)
+      [ true ↦ k | false ↦ h ]
 
   -- the longer of two prefixes of one list begins with both
-  pub longer_begins : (xs ys zs : List A) → IsPrefix xs zs → IsPrefix ys zs → IsPrefix xs (longer xs ys) × IsPrefix ys (longer xs ys)
+  pub longer_begins : (xs ys zs : List A) → IsPrefix xs zs → IsPrefix ys zs
+      → IsPrefix xs (longer xs ys) × IsPrefix ys (longer xs ys)
   longer_begins xs ys zs h k = go (ltb (length xs) (length ys)) refl
     where
       go : (b : Bool) → ltb (length xs) (length ys) ≡ b → IsPrefix xs (cond b ys xs) × IsPrefix ys (cond b ys xs)
-      go true e = let less : length xs < length ys = ltb-true (length xs) (length ys) e in (prefix_between xs ys zs h k (omega arith), prefix_self ys)
+      go true e = let less : length xs < length ys = ltb-true (length xs) (length ys) e in
+          (prefix_between xs ys zs h k (omega arith), prefix_self ys)
       go false e = (prefix_self xs, prefix_between ys xs zs k h (ltb-false (length xs) (length ys) e))
 
 module _ {E : Type 0} (author : E → ℕ) where
@@ -56,7 +63,8 @@ module _ {E : Type 0} (author : E → ℕ) where
   calls_else n e h = ap (λ (b : Bool). cond b (e ∷ []) []) (ne_eqb (author e) n h)
 
   -- a number that no entry names has no calls
-  pub calls_none : (n : ℕ) (es : List E) → ((k : ℕ) (e : E) → get_elem? es k ≡ some e → author e ≢ n) → calls author n es ≡ []
+  pub calls_none : (n : ℕ) (es : List E)
+      → ((k : ℕ) (e : E) → get_elem? es k ≡ some e → author e ≢ n) → calls author n es ≡ []
   calls_none n [] h = refl
   calls_none n (e ∷ es) h =
       ap (λ (b : Bool). cond b (e ∷ calls author n es) (calls author n es)) (ne_eqb (author e) n (h 0 e refl))
@@ -66,8 +74,10 @@ module _ {E : Type 0} (author : E → ℕ) where
   pub calls_between : (n : ℕ) (xs ys zs : List E) → IsPrefix xs ys → IsPrefix ys zs
       → calls author n xs ≡ calls author n zs → calls author n ys ≡ calls author n xs
   calls_between n xs ys zs h k same =
-      let split : calls author n ys ≡ calls author n xs ++ calls author n h.0 = ap (calls author n) h.1 ∙ calls-append n xs h.0 in
-      let split' : calls author n zs ≡ calls author n ys ++ calls author n k.0 = ap (calls author n) k.1 ∙ calls-append n ys k.0 in
+      let split : calls author n ys ≡ calls author n xs ++ calls author n h.0 =
+      ap (calls author n) h.1 ∙ calls-append n xs h.0 in
+      let split' : calls author n zs ≡ calls author n ys ++ calls author n k.0 =
+      ap (calls author n) k.1 ∙ calls-append n ys k.0 in
       let size = ap (length {A = E}) split ∙ length-append (calls author n xs) (calls author n h.0) in
       let size' = ap (length {A = E}) split' ∙ length-append (calls author n ys) (calls author n k.0) in
       let size'' = ap (length {A = E}) same in
@@ -82,23 +92,29 @@ pub record Grown {E : Type 0} (author : E → ℕ) (n : ℕ) (up : Bool) (old ne
   pub others : (i : ℕ) → i ≢ n → calls author i new ≡ calls author i old
   pub names : (k : ℕ) (e : E) → get_elem? new k ≡ some e → (get_elem? old k ≡ some e) ⊎ (author e ≡ n)
 
-pub grown : {E : Type 0} (author : E → ℕ) (n : ℕ) (up : Bool) (old new : List E) → GrowsBy author n up old new → Grown author n up old new
+pub grown : {E : Type 0} (author : E → ℕ) (n : ℕ) (up : Bool) (old new : List E)
+    → GrowsBy author n up old new → Grown author n up old new
 grown {E} author n true old new g =
     let e : E = g.0 in
     let last : drop (length old) new ≡ e ∷ [] = ap (drop (length old)) g.1 ∙ drop-append_seam old (e ∷ []) in
     record {
       longer_by = ap (length {A = E}) g.1 ∙ length-append old (e ∷ []);
       begins = (e ∷ [], g.1);
-      own = ap (calls author n) g.1 ∙ (calls-append author n old (e ∷ []) ∙ ap (λ (l : List E). calls author n old ++ l) (calls_own author n e g.2 ∙ sym last));
-      others = λ i other. ap (calls author i) g.1 ∙ (calls-append author i old (e ∷ []) ∙ (ap (λ (l : List E). calls author i old ++ l) (calls_else author i e (λ q. other (sym q ∙ g.2))) ∙ append-nil (calls author i old)));
-      names = λ k e' h. ⊎_elim (λ q. inl q) (λ q. inr (ap author (sym q) ∙ g.2)) (at_snoc old e e' k (ap (λ (l : List E). get_elem? l k) (sym g.1) ∙ h));
+      own = ap (calls author n) g.1 ∙ (calls-append author n old (e ∷ [])
+          ∙ ap (λ (l : List E). calls author n old ++ l) (calls_own author n e g.2 ∙ sym last));
+      others = λ i other. ap (calls author i) g.1 ∙ (calls-append author i old (e ∷ [])
+          ∙ (ap (λ (l : List E). calls author i old ++ l) (calls_else author i e
+          (λ q. other (sym q ∙ g.2))) ∙ append-nil (calls author i old)));
+      names = λ k e' h. ⊎_elim (λ q. inl q) (λ q. inr (ap author (sym q) ∙ g.2))
+          (at_snoc old e e' k (ap (λ (l : List E). get_elem? l k) (sym g.1) ∙ h));
     }
 grown {E} author n false old new g =
     let none : drop (length old) new ≡ [] = ap (drop (length old)) g ∙ drop-length old in
     record {
       longer_by = let same = ap (length {A = E}) g in omega arith;
       begins = ([], g ∙ sym (append-nil old));
-      own = ap (calls author n) g ∙ (sym (append-nil (calls author n old)) ∙ ap (λ (l : List E). calls author n old ++ l) (sym none));
+      own = ap (calls author n) g ∙ (sym (append-nil (calls author n old))
+          ∙ ap (λ (l : List E). calls author n old ++ l) (sym none));
       others = λ i _. ap (calls author i) g;
       names = λ k e h. inl (ap (λ (l : List E). get_elem? l k) (sym g) ∙ h);
     }

@@ -1,6 +1,9 @@
 -- The steps that change no history keep the rule: to draw a ticket, to look whether it is served, to pass the turn on.
--- In each one view goes to another stage, and the book stays where it is; `restages` rebuilds the rule from the facts on tickets.
-use Rattle.std.proofs.Common.{◌≡◌, ◌≢◌, ℕ, ◌+◌, ◌%◌, ◌^◌, ◌<◌, ◌≤◌, Bool, true, List, [], ◌∷◌, ℤ, length, get_or, set, sym, refl, ap, ◌∙◌, subst, ⊎_elim, inl, inr, ◌⊎◌, arith, Option, length-set}
+-- In each one view goes to another stage, and the book stays where it is; `restages` rebuilds the
+-- rule from the facts on tickets.
+use Rattle.std.proofs.Common.{◌≡◌, ◌≢◌, ℕ, ◌+◌, ◌%◌, ◌^◌, ◌<◌, ◌≤◌, Bool, true, List, [], ◌∷◌, ℤ}
+use Rattle.std.proofs.Common.{length, get_or, set, sym, refl, ap, ◌∙◌, subst, ⊎_elim, inl, inr, ◌⊎◌}
+use Rattle.std.proofs.Common.{arith, Option, length-set}
 use mathlib.Core.Logic.{dite}
 use mathlib.Core.Option.{none, some}
 use native.Mathlib.Decide.{ℕ_discrete}
@@ -39,22 +42,28 @@ one_ticket Ended = omega arith
 
 -- what stands of the stage of another pass, over a draw and over a turn that is passed on
 module _ (owner : ℕ → ℕ) (served drawn : ℕ) (away : Whereabouts) (j id : ℕ) where
-  others_draw : (st : Stage) → Stands owner served drawn away j st → Stands (put owner drawn id) served (drawn + 1) away j st
+  others_draw : (st : Stage) → Stands owner served drawn away j st
+      → Stands (put owner drawn id) served (drawn + 1) away j st
   others_draw Idle k = tt
   others_draw (Waits t) k = let below = k.1 in (k.0, omega arith, put_else owner drawn id t (λ e. omega arith) ∙ k.2)
-  others_draw (Served t) k = let below = k.1 in (k.0, omega arith, put_else owner drawn id t (λ e. omega arith) ∙ k.2, k.3)
+  others_draw (Served t) k =
+      let below = k.1 in (k.0, omega arith, put_else owner drawn id t (λ e. omega arith) ∙ k.2, k.3)
   others_draw (Has t) k = let below = k.1 in (k.0, omega arith, put_else owner drawn id t (λ e. omega arith) ∙ k.2, k.3)
-  others_draw (Marked t) k = let below = k.1 in (k.0, omega arith, put_else owner drawn id t (λ e. omega arith) ∙ k.2, k.3)
-  others_draw (Home t) k = let below = k.1 in (k.0, omega arith, put_else owner drawn id t (λ e. omega arith) ∙ k.2, k.3)
+  others_draw (Marked t) k =
+      let below = k.1 in (k.0, omega arith, put_else owner drawn id t (λ e. omega arith) ∙ k.2, k.3)
+  others_draw (Home t) k =
+      let below = k.1 in (k.0, omega arith, put_else owner drawn id t (λ e. omega arith) ∙ k.2, k.3)
   others_draw Ended k = tt
 
   -- a ticket of another pass is not the one that is served
   pub not_served : j ≢ id → owner served ≡ id → (t : ℕ) → owner t ≡ j → t ≢ served
   not_served other mine t is e = other (sym is ∙ (ap owner e ∙ mine))
 
-  others_pass : j ≢ id → owner served ≡ id → (st : Stage) → Stands owner served drawn away j st → Stands owner (served + 1) drawn away j st
+  others_pass : j ≢ id → owner served ≡ id → (st : Stage) → Stands owner served drawn away j st
+      → Stands owner (served + 1) drawn away j st
   others_pass other mine Idle k = tt
-  others_pass other mine (Waits t) k = let apart = not_served other mine t k.2 in let from = k.0 in (omega arith, k.1, k.2)
+  others_pass other mine (Waits t) k =
+      let apart = not_served other mine t k.2 in let from = k.0 in (omega arith, k.1, k.2)
   others_pass other mine (Served t) k = absurd (not_served other mine t k.2 k.0)
   others_pass other mine (Has t) k = absurd (not_served other mine t k.2 k.0)
   others_pass other mine (Marked t) k = absurd (not_served other mine t k.2 k.0)
@@ -63,7 +72,8 @@ module _ (owner : ℕ → ℕ) (served drawn : ℕ) (away : Whereabouts) (j id :
 
 module _ {E : Type 0} where
   -- what a pass knows does not depend on its stage, but for the journal that it has with the book
-  pub restaged : (author : E → ℕ) (seats : ℕ) (label : List ℤ) (journal : List E) (over : ℕ → Bool) (room roomer j : ℕ) (v : View E) (st : Stage) (es : List E)
+  pub restaged : (author : E → ℕ) (seats : ℕ) (label : List ℤ) (journal : List E) (over : ℕ → Bool)
+      (room roomer j : ℕ) (v : View E) (st : Stage) (es : List E)
       → Knows author seats label journal over room roomer j v
       → (HasBook st → es ≡ journal) → Knows author seats label journal over room roomer j (with_journal st es v)
   restaged author seats label journal over room roomer j v st es k h = record {
@@ -87,8 +97,12 @@ module _ {E : Type 0} where
       → HasTicket (set vs id w) j t
   same_tickets vs id v w at as_many same j t has =
       dite (ℕ_discrete j id)
-      (λ (e : j ≡ id). let u_is : has.0 ≡ v = same_place vs j id has.0 v e has.1 at in
-      (w, ap (λ (i : ℕ). get_elem? (set vs id w) i) e ∙ set_here vs id w (inside vs id v at), as_many ∙ (ap (λ (x : View E). tickets x.stage) (sym u_is) ∙ has.2), same ∙ (ap (λ (x : View E). ticket_of x.stage) (sym u_is) ∙ has.3)))
+      (λ (e : j ≡ id). let u_is : has.0 ≡ v = same_place vs j id has.0 v e has.1 at in (
+        w,
+        ap (λ (i : ℕ). get_elem? (set vs id w) i) e ∙ set_here vs id w (inside vs id v at),
+        as_many ∙ (ap (λ (x : View E). tickets x.stage) (sym u_is) ∙ has.2),
+        same ∙ (ap (λ (x : View E). ticket_of x.stage) (sym u_is) ∙ has.3),
+      ))
       (λ (n : j ≢ id). (has.0, elsewhere vs id j w has.0 n has.1, has.2, has.3))
 
   -- the ticket t of pass j, where pass id has another ticket or none
@@ -96,14 +110,19 @@ module _ {E : Type 0} where
       → (tickets v.stage ≡ 1 → ticket_of v.stage ≡ t → ⊥) → HasTicket vs j t
       → (j ≢ id) × HasTicket (set vs id w) j t
   other_ticket vs id v w at j t apart has =
-      let n : j ≢ id = λ (e : j ≡ id). let u_is : has.0 ≡ v = same_place vs j id has.0 v e has.1 at in apart (ap (λ (x : View E). tickets x.stage) (sym u_is) ∙ has.2) (ap (λ (x : View E). ticket_of x.stage) (sym u_is) ∙ has.3) in
+      let n : j ≢ id =
+      λ (e : j ≡ id). let u_is : has.0 ≡ v = same_place vs j id has.0 v e has.1 at in
+      apart (ap (λ (x : View E). tickets x.stage) (sym u_is) ∙ has.2)
+      (ap (λ (x : View E). ticket_of x.stage) (sym u_is) ∙ has.3) in
       (n, (has.0, elsewhere vs id j w has.0 n has.1, has.2, has.3))
 
   pub not_holder : (vs : List (View E)) (id : ℕ) (v : View E) → get_elem? vs id ≡ some v → ¬ HasBook v.stage → (j : ℕ)
       → IsHolder vs j → j ≢ id
-  not_holder vs id v at empty j h e = empty (subst (λ (x : View E). HasBook x.stage) (same_place vs j id h.0 v e h.1 at) h.2)
+  not_holder vs id v at empty j h e =
+      empty (subst (λ (x : View E). HasBook x.stage) (same_place vs j id h.0 v e h.1 at) h.2)
 
-module _ {B E : Type 0} (history : B → List E) (author : List ℤ → E → ℕ) (label_of : B → List ℤ) (seats : ℕ) (label : List ℤ) where
+module _ {B E : Type 0} (history : B → List E) (author : List ℤ → E → ℕ) (label_of : B → List ℤ)
+    (seats : ℕ) (label : List ℤ) where
   abbrev pub St : Type 0
   St = State (Option B) (View E)
 
@@ -113,10 +132,16 @@ module _ {B E : Type 0} (history : B → List E) (author : List ℤ → E → �
   -- a load that changes no view changes nothing
   pub unchanged : (s : St) (i id : ℕ) (me : Me (Option B) (View E)) → get_elem? s.views id ≡ some me.0 → Rule s
       → Rule (stepped s i (get_or s.words i 0) id me.1 me.0 keeps)
-  unchanged s i id me at r = subst (λ (p : List ℕ × List (View E)). Rule record { words = p.0; homes = s.homes; views = p.1 }) (λ k. (sym (set-get_or s.words i 0) k, sym (set_again s.views id me.0 at) k)) r
+  unchanged s i id me at r =
+      subst (λ (p : List ℕ × List (View E)). Rule record {
+        words = p.0;
+        homes = s.homes;
+        views = p.1;
+      }) (λ k. (sym (set-get_or s.words i 0) k, sym (set_again s.views id me.0 at) k)) r
 
   -- the view at id goes to another stage, in which it has no book, as before
-  restages : (s : St) (r : Rule s) (id : ℕ) (v : View E) (st : Stage) (served' drawn' : ℕ) (owner' : ℕ → ℕ) (words' : List ℕ)
+  restages : (s : St) (r : Rule s) (id : ℕ) (v : View E) (st : Stage) (served' drawn' : ℕ)
+      (owner' : ℕ → ℕ) (words' : List ℕ)
       → get_elem? s.views id ≡ some v → is_live v.stage ≡ true → ¬ HasBook v.stage → ¬ HasBook st
       → words' ≡ (drawn' % 2 ^ 64) ∷ (served' % 2 ^ 64) ∷ length r.journal ∷ []
       → served' + r.drawn + tickets st ≡ drawn' + r.served + tickets v.stage
@@ -141,9 +166,11 @@ module _ {B E : Type 0} (history : B → List E) (author : List ℤ → E → �
         words_are = words;
         short = r.short;
         few = r.few;
-        counted = let sum = sum-set (λ (u : View E). tickets u.stage) s.views id v w at in let was = r.counted in omega arith;
+        counted = let sum = sum-set (λ (u : View E). tickets u.stage) s.views id v w at in
+            let was = r.counted in omega arith;
         drawn_by = tickets_are;
-        stands = each_set (λ (j : ℕ) (u : View E). Stands owner' served' drawn' r.away j u.stage) s.views id w here others;
+        stands = each_set (λ (j : ℕ) (u : View E). Stands owner' served' drawn' r.away j u.stage)
+            s.views id w here others;
         home = r.home;
         out = λ j e. let o = r.out j e in
             let h = o.3 in
@@ -152,8 +179,11 @@ module _ {B E : Type 0} (history : B → List E) (author : List ℤ → E → �
         given = ap (λ (n : ℕ). n + r.room) as_long ∙ r.given;
         fresh = λ n l. r.fresh n (omega arith);
         named = λ k e h. let x = r.named k e h in omega arith;
-        knows = each_set (λ (j : ℕ) (u : View E). is_live u.stage ≡ true → Knows (author label) seats label r.journal r.over r.room r.roomer j u) s.views id w
-            (λ _. restaged (author label) seats label r.journal r.over r.room r.roomer id v st v.journal (r.knows id v at live) (λ b. absurd (empty' b))) (λ j u _ p. r.knows j u p);
+        knows = each_set (λ (j : ℕ) (u : View E). is_live u.stage ≡ true
+            → Knows (author label) seats label r.journal r.over r.room r.roomer j u) s.views id w
+            (λ _. restaged (author label) seats label r.journal r.over r.room r.roomer id v st
+            v.journal (r.knows id v at live) (λ b. absurd (empty' b)))
+            (λ j u _ p. r.knows j u p);
       }
 
   pub draws : (slots id : ℕ) (me : Me (Option B) (View E)) → me.0.stage ≡ Idle
@@ -167,16 +197,29 @@ module _ {B E : Type 0} (history : B → List E) (author : List ℤ → E → �
         at_stage st v,
         keeps,
         tt,
-        restages s r id v st r.served (t + 1) (put r.owner t id) (set s.words 0 ((get_or s.words 0 0 + 1) % 2 ^ 64)) at (ap is_live is) (λ b. subst HasBook is b) (λ b. b)
-            (ap (λ (ws : List ℕ). set ws 0 ((get_or ws 0 0 + 1) % 2 ^ 64)) r.words_are ∙ (λ i. wraps t i ∷ (r.served % 2 ^ 64) ∷ length r.journal ∷ []))
+        restages s r id v st r.served (t + 1) (put r.owner t id)
+            (set s.words 0 ((get_or s.words 0 0 + 1) % 2 ^ 64)) at (ap is_live is)
+            (λ b. subst HasBook is b) (λ b. b)
+            (ap (λ (ws : List ℕ). set ws 0 ((get_or ws 0 0 + 1) % 2 ^ 64)) r.words_are
+            ∙ (λ i. wraps t i ∷ (r.served % 2 ^ 64) ∷ length r.journal ∷ []))
             (omega arith)
             (λ t' from below. dite (ℕ_discrete t' t)
-            (λ (e : t' ≡ t). (at_stage st v, ap (get_elem? (set s.views id (at_stage st v))) (ap (put r.owner t id) e ∙ put_here r.owner t id) ∙ set_here s.views id (at_stage st v) (inside s.views id v at), refl, sym e))
+            (λ (e : t' ≡ t). (
+              at_stage st v,
+              ap (get_elem? (set s.views id (at_stage st v)))
+                  (ap (put r.owner t id) e ∙ put_here r.owner t id)
+                  ∙ set_here s.views id (at_stage st v) (inside s.views id v at),
+              refl,
+              sym e,
+            ))
             (λ (n : t' ≢ t). let has = r.drawn_by t' from (omega arith) in
-            subst (λ (j : ℕ). HasTicket (set s.views id (at_stage st v)) j t') (sym (put_else r.owner t id t' n)) (other_ticket s.views id v (at_stage st v) at (r.owner t') t' (λ one _. omega arith) has).1))
+            subst (λ (j : ℕ). HasTicket (set s.views id (at_stage st v)) j t')
+            (sym (put_else r.owner t id t' n)) (other_ticket s.views id v (at_stage st v) at
+            (r.owner t') t' (λ one _. omega arith) has).1))
             (bounded, omega arith, put_here r.owner t id)
             (λ j u other at'. others_draw r.owner r.served t r.away j id u.stage (r.stands j u at'))
-            (λ j e. let o = r.out j e in let less = o.2 in (o.1 ∙ sym (put_else r.owner t id r.served (λ same. omega arith)), omega arith)),
+            (λ j e. let o = r.out j e in let less = o.2 in
+            (o.1 ∙ sym (put_else r.owner t id r.served (λ same. omega arith)), omega arith)),
         (t, ap (λ (ws : List ℕ). get_or ws 0 0) r.words_are, refl),
       )
 
@@ -191,14 +234,17 @@ module _ {B E : Type 0} (history : B → List E) (author : List ℤ → E → �
   pub still_home : (s : St) (r : Rule s) (id : ℕ) (v : View E) → get_elem? s.views id ≡ some v → ¬ HasBook v.stage
       → r.owner r.served ≡ id → r.away ≡ at_home
   still_home s r id v at empty mine =
-      ⊎_elim (λ (e : r.away ≡ at_home). e) (λ (p : (j : ℕ) × (r.away ≡ with_pass j)). let o = r.out p.0 p.1 in absurd (not_holder s.views id v at empty p.0 o.3 (o.1 ∙ mine))) (either_place r.away)
+      ⊎_elim (λ (e : r.away ≡ at_home). e) (λ (p : (j : ℕ) × (r.away ≡ with_pass j)).
+      let o = r.out p.0 p.1 in
+      absurd (not_holder s.views id v at empty p.0 o.3 (o.1 ∙ mine))) (either_place r.away)
 
   pub looks : (slots id : ℕ) (me : Me (Option B) (View E)) (t : ℕ) → me.0.stage ≡ Waits t
       → Allows Rule slots id me 1 (λ x. x) (looked (step slots 1 0 0 none) me)
   looks slots id me t is s r deep at fits =
       let v : View E = me.0 in
       let st : Stage = Served t in
-      let k : Stands r.owner r.served r.drawn r.away id (Waits t) = subst (Stands r.owner r.served r.drawn r.away id) is (r.stands id v at) in
+      let k : Stands r.owner r.served r.drawn r.away id (Waits t) =
+      subst (Stands r.owner r.served r.drawn r.away id) is (r.stands id v at) in
       let found : get_or s.words 1 0 ≡ r.served % 2 ^ 64 = ap (λ (ws : List ℕ). get_or ws 1 0) r.words_are in
       let same : (t' : ℕ) → v.stage ≡ Waits t' → t ≡ t' = λ t' is'. ap ticket_of (sym is ∙ is') in
       dite (ℕ_discrete (get_or s.words 1 0) (t % 2 ^ 64))
@@ -208,14 +254,19 @@ module _ {B E : Type 0} (history : B → List E) (author : List ℤ → E → �
         at_stage st v,
         keeps,
         tt,
-        restages s r id v st r.served r.drawn r.owner (set s.words 1 (get_or s.words 1 0)) at (ap is_live is) (λ b. subst HasBook is b) (λ b. b)
+        restages s r id v st r.served r.drawn r.owner (set s.words 1 (get_or s.words 1 0)) at
+            (ap is_live is) (λ b. subst HasBook is b) (λ b. b)
             (set-get_or s.words 1 0 ∙ r.words_are)
             (let one : tickets v.stage ≡ 1 = ap tickets is in omega arith)
-            (λ t' from' below'. same_tickets s.views id v (at_stage st v) at (sym (ap tickets is)) (sym (ap ticket_of is)) (r.owner t') t' (r.drawn_by t' from' below'))
+            (λ t' from' below'. same_tickets s.views id v (at_stage st v) at (sym (ap tickets is))
+            (sym (ap ticket_of is)) (r.owner t') t' (r.drawn_by t' from' below'))
             (sym turn, below, k.2, still_home s r id v at (λ b. subst HasBook is b) (ap r.owner turn ∙ k.2))
             (λ j u other at'. r.stands j u at')
             (λ j e. let o = r.out j e in (o.1, o.2)),
-        λ t' is'. ((λ _. ap (λ (x : ℕ). (at_stage (Served x) v, me.1)) (same t' is')), λ miss. absurd (miss (hit ∙ ap (λ (x : ℕ). x % 2 ^ 64) (same t' is')))),
+        λ t' is'. (
+          (λ _. ap (λ (x : ℕ). (at_stage (Served x) v, me.1)) (same t' is')),
+          λ miss. absurd (miss (hit ∙ ap (λ (x : ℕ). x % 2 ^ 64) (same t' is'))),
+        ),
       ))
       (λ (miss : get_or s.words 1 0 ≢ t % 2 ^ 64). (
         v,
@@ -229,7 +280,8 @@ module _ {B E : Type 0} (history : B → List E) (author : List ℤ → E → �
       → Allows Rule slots id me 1 (λ x. (x + 1) % 2 ^ 64) (passed_on (step slots 1 1 0 none) me)
   passes_on slots id me t is s r deep at fits =
       let v : View E = me.0 in
-      let k : Stands r.owner r.served r.drawn r.away id (Home t) = subst (Stands r.owner r.served r.drawn r.away id) is (r.stands id v at) in
+      let k : Stands r.owner r.served r.drawn r.away id (Home t) =
+      subst (Stands r.owner r.served r.drawn r.away id) is (r.stands id v at) in
       let now = k.0 in let below = k.1 in
       let ticket_is : ticket_of v.stage ≡ t = ap ticket_of is in
       let one : tickets v.stage ≡ 1 = ap tickets is in
@@ -237,10 +289,14 @@ module _ {B E : Type 0} (history : B → List E) (author : List ℤ → E → �
         at_stage Idle v,
         keeps,
         tt,
-        restages s r id v Idle (r.served + 1) r.drawn r.owner (set s.words 1 ((get_or s.words 1 0 + 1) % 2 ^ 64)) at (ap is_live is) (λ b. subst HasBook is b) (λ b. b)
-            (ap (λ (ws : List ℕ). set ws 1 ((get_or ws 1 0 + 1) % 2 ^ 64)) r.words_are ∙ (λ i. (r.drawn % 2 ^ 64) ∷ wraps r.served i ∷ length r.journal ∷ []))
+        restages s r id v Idle (r.served + 1) r.drawn r.owner
+            (set s.words 1 ((get_or s.words 1 0 + 1) % 2 ^ 64)) at (ap is_live is)
+            (λ b. subst HasBook is b) (λ b. b)
+            (ap (λ (ws : List ℕ). set ws 1 ((get_or ws 1 0 + 1) % 2 ^ 64)) r.words_are
+            ∙ (λ i. (r.drawn % 2 ^ 64) ∷ wraps r.served i ∷ length r.journal ∷ []))
             (omega arith)
-            (λ t' from below'. (other_ticket s.views id v (at_stage Idle v) at (r.owner t') t' (λ _ e. omega arith) (r.drawn_by t' (omega arith) below')).1)
+            (λ t' from below'. (other_ticket s.views id v (at_stage Idle v) at (r.owner t') t'
+            (λ _ e. omega arith) (r.drawn_by t' (omega arith) below')).1)
             tt
             (λ j u other at'. others_pass r.owner r.served r.drawn r.away j id other mine u.stage (r.stands j u at'))
             (λ j e. absurd (not_both r.away j k.3 e)),

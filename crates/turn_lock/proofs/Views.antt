@@ -1,5 +1,8 @@
--- Lists of views: what is known of each view after one of them changed or one more came, and functions changed at one place.
-use Rattle.std.proofs.Common.{◌≡◌, ◌≢◌, ℕ, zero, suc, ◌+◌, ◌<◌, ◌≤◌, List, [], ◌∷◌, ◌++◌, length, get_or, set, sum_by, sym, refl, ap, ◌∙◌, subst, ⊎_elim, inl, inr, ◌⊎◌, arith}
+-- Lists of views: what is known of each view after one of them changed or one more came, and
+-- functions changed at one place.
+use Rattle.std.proofs.Common.{◌≡◌, ◌≢◌, ℕ, zero, suc, ◌+◌, ◌<◌, ◌≤◌, List, [], ◌∷◌, ◌++◌, length}
+use Rattle.std.proofs.Common.{get_or, set, sum_by, sym, refl, ap, ◌∙◌, subst, ⊎_elim, inl, inr, ◌⊎◌}
+use Rattle.std.proofs.Common.{arith}
 use mathlib.Core.Option.{some, some-injective, some-ne-none}
 use mathlib.Core.Logic.{dite}
 use native.Mathlib.Decide.{ℕ_discrete}
@@ -54,27 +57,36 @@ module _ {A : Type 0} where
   pub elsewhere : (l : List A) (i j : ℕ) (w a : A) → j ≢ i → get_elem? l j ≡ some a → get_elem? (set l i w) j ≡ some a
   elsewhere l i j w a other e = set_else l i j w other ∙ e
 
-  at_end : (l : List A) (w a : A) (j : ℕ) → get_elem? (l ++ w ∷ []) j ≡ some a → (get_elem? l j ≡ some a) ⊎ ((j ≡ length l) × (w ≡ a))
+  at_end : (l : List A) (w a : A) (j : ℕ) → get_elem? (l ++ w ∷ []) j ≡ some a
+      → (get_elem? l j ≡ some a) ⊎ ((j ≡ length l) × (w ≡ a))
   at_end [] w a zero e = inr (refl, some-injective w a e)
   at_end [] w a (suc j) e = absurd (some-ne-none a (sym e))
   at_end (x ∷ xs) w a zero e = inl e
-  at_end (x ∷ xs) w a (suc j) e = ⊎_elim (λ t. inl t) (λ (t : (j ≡ length xs) × (w ≡ a)). inr (ap suc t.0, t.1)) (at_end xs w a j e)
+  at_end (x ∷ xs) w a (suc j) e =
+      ⊎_elim (λ t. inl t) (λ (t : (j ≡ length xs) × (w ≡ a)). inr (ap suc t.0, t.1))
+      (at_end xs w a j e)
 
   -- P of each view after the one at i became w
   pub each_set : (P : ℕ → A → Type 0) (l : List A) (i : ℕ) (w : A) → P i w
       → ((j : ℕ) (a : A) → j ≢ i → get_elem? l j ≡ some a → P j a) → (j : ℕ) (a : A)
       → get_elem? (set l i w) j ≡ some a → P j a
-  each_set P l i w here others j a e = ⊎_elim (λ (t : (j ≡ i) × (w ≡ a)). subst (λ (x : ℕ × A). P x.0 x.1) (λ k. (sym t.0 k, t.1 k)) here)
+  each_set P l i w here others j a e =
+      ⊎_elim (λ (t : (j ≡ i) × (w ≡ a)). subst (λ (x : ℕ × A). P x.0 x.1) (λ k. (sym t.0 k, t.1 k))
+      here)
       (λ (t : (j ≢ i) × (get_elem? l j ≡ some a)). others j a t.0 t.1) (at_set l i j w a e)
 
   -- P of each view after w came to the end
   pub each_end : (P : ℕ → A → Type 0) (l : List A) (w : A) → P (length l) w
       → ((j : ℕ) (a : A) → get_elem? l j ≡ some a → P j a) → (j : ℕ) (a : A) → get_elem? (l ++ w ∷ []) j ≡ some a
       → P j a
-  each_end P l w last others j a e = ⊎_elim (others j a) (λ (t : (j ≡ length l) × (w ≡ a)). subst (λ (x : ℕ × A). P x.0 x.1) (λ k. (sym t.0 k, t.1 k)) last) (at_end l w a j e)
+  each_end P l w last others j a e =
+      ⊎_elim (others j a) (λ (t : (j ≡ length l) × (w ≡ a)). subst (λ (x : ℕ × A). P x.0 x.1)
+      (λ k. (sym t.0 k, t.1 k)) last) (at_end l w a j e)
 
-  pub sum-set : (f : A → ℕ) (l : List A) (i : ℕ) (a w : A) → get_elem? l i ≡ some a → sum_by f (set l i w) + f a ≡ sum_by f l + f w
-  sum-set f l i a w e = subst (λ (x : A). sum_by f (set l i w) + f x ≡ sum_by f l + f w) (get_or_at l i a a e) (sum_by-set f l i w a (inside l i a e))
+  pub sum-set : (f : A → ℕ) (l : List A) (i : ℕ) (a w : A) → get_elem? l i ≡ some a
+      → sum_by f (set l i w) + f a ≡ sum_by f l + f w
+  sum-set f l i a w e = subst (λ (x : A). sum_by f (set l i w) + f x ≡ sum_by f l + f w)
+      (get_or_at l i a a e) (sum_by-set f l i w a (inside l i a e))
 
   pub sum-bound : (f : A → ℕ) → ((a : A) → f a ≤ 1) → (l : List A) → sum_by f l ≤ length l
   sum-bound f h [] = omega arith

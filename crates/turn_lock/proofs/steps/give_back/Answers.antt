@@ -19,5 +19,9 @@ load-requires g c =
 pub fetch_add-requires : goal.fetch_add-requires
 fetch_add-requires g c =
     let put = c.exchange.ensures.3 in
-    let gave = c.load.ensures.2 c.requires.holds.0 (ap (λ m. m.0.stage) put ∙ c.requires.holds.1) in
-    (search rules, search rules, passes_on g.B.Counted.history g.B.Counted.author g.B.Counted.label _ _ _ _ _ c.requires.holds.0 (ap (λ m. m.0.stage) gave))
+    let gave = c.load.ensures.2 c.requires.holds.0 (ap (λ m. m.0.stage) put ∙ c.requires.holds.1) in (
+      search rules,
+      search rules,
+      passes_on g.B.Counted.history g.B.Counted.author g.B.Counted.label
+          _ _ _ _ _ c.requires.holds.0 (ap (λ m. m.0.stage) gave),
+    )

@@ -17,6 +17,7 @@ fetch_add-requires g c =
     let v = c.args.place.now.me.0 in (
       search rules,
       search rules,
-      marks_history g.B.Counted.history g.B.Counted.author g.B.Counted.label _ _ _ _ _ c.requires.holds.0 _ c.args.up _ c.requires.holds.1 (c.from.ensures ∙ number_of c.args.up)
+      marks_history g.B.Counted.history g.B.Counted.author g.B.Counted.label _ _ _ _ _
+          c.requires.holds.0 _ c.args.up _ c.requires.holds.1 (c.from.ensures ∙ number_of c.args.up)
           (subst (GrowsBy (g.B.Counted.author v.label) v.number c.args.up v.journal) (sym told) c.requires.grows) short,
     )

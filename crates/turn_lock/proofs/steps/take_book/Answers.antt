@@ -4,7 +4,12 @@ use Rattle.turn_lock.proofs.Turns.{takes_book}
 use Rattle.turn_lock.proofs.steps.take_book.Goals as goal
 
 pub load-requires : goal.load-requires
-load-requires g c = (search rules, search rules, takes_book g.B.Counted.history g.B.Counted.author g.B.Counted.label _ _ _ _ _ c.requires.served.0 c.requires.served.1)
+load-requires g c = (
+  search rules,
+  search rules,
+  takes_book g.B.Counted.history g.B.Counted.author g.B.Counted.label _ _ _ _ _
+      c.requires.served.0 c.requires.served.1,
+)
 
 pub exchange-requires : goal.exchange-requires
 exchange-requires g c =
