@@ -1,5 +1,7 @@
--- Histories of a book: lists of entries, the oldest first, each of which names the number of a lock pass.
-use Rattle.std.specs.Prelude.{◌≡◌, ℕ, List, [], ◌∷◌, ◌++◌, length, filter, ◌==◌, nat_lt, if◌then◌else◌, Bool, true, false}
+-- Histories of a book: lists of entries, the oldest first, each of which names the number of a lock
+-- pass.
+use Rattle.std.specs.Prelude.{◌≡◌, ℕ, List, [], ◌∷◌, ◌++◌, length, filter, ◌==◌, nat_lt}
+use Rattle.std.specs.Prelude.{if◌then◌else◌, Bool, true, false}
 
 module _ {E : Type 0} where
   -- ys begins with xs

@@ -1,5 +1,6 @@
 -- What each step tells the lock pass that makes it.
--- Each definition takes the step, the pass before it, the number found in the word, and the pass after.
+-- Each definition takes the step, the pass before it, the number found in the word, and the pass
+-- after.
 use Rattle.std.specs.Prelude.{◌≡◌, ◌≢◌, ℕ, ◌%◌, ◌^◌, ◌<◌, List, [], ◌∷◌, ℤ, Option, Some}
 use Rattle.atomic_table.specs.Table.{Me, Step}
 use Rattle.turn_lock.specs.declared.stage.Stage.TheVariants.{Idle, Waits, Served, Has, Marked, Home}
@@ -26,8 +27,8 @@ module _ {B E : Type 0} where
       → (found ≡ t % 2 ^ 64 → m' ≡ (at_stage (Served t) m.0, m.1))
       × (found ≢ t % 2 ^ 64 → m' ≡ m)
 
-  -- a pass that is served has the book: its history begins with what the pass had seen, its entries that
-  -- name the pass are those that the pass added, and its label is the one that the pass knows
+  -- a pass that is served has the book: its history begins with what the pass had seen, its entries
+  -- that name the pass are those that the pass added, and its label is the one that the pass knows
   abbrev pub took : (B → List E) → (List ℤ → E → ℕ) → (B → List ℤ)
       → At B → Known B E → ℕ → Known B E → Type 0
   took history author label st m found m' = (t : ℕ) → m.0.stage ≡ Served t
@@ -35,7 +36,8 @@ module _ {B E : Type 0} where
       × IsPrefix m.0.seen (history b)
       × (calls (author m.0.label) m.0.number (history b) ≡ m.0.mine) × (label b ≡ m.0.label)
 
-  -- a pass that has the book has seen the history `list`, and its own entries have grown by the new ones
+  -- a pass that has the book has seen the history `list`, and its own entries have grown by the new
+  -- ones
   abbrev pub marks : List E → At B → Known B E → ℕ → Known B E → Type 0
   marks list st m found m' = (t : ℕ) → m.0.stage ≡ Has t → m' ≡ (marked (Marked t) list m.0, m.1)
 
@@ -47,8 +49,9 @@ module _ {B E : Type 0} where
   abbrev pub passed_on : At B → Known B E → ℕ → Known B E → Type 0
   passed_on st m found m' = m' ≡ (at_stage Idle m.0, m.1)
 
-  -- nothing changed: the pass has room for fewer than all passes, and the longer of the two lists that
-  -- were joined last begins with both
+  -- nothing changed: the pass has room for fewer than all passes, and the longer of the two lists
+  -- that were joined last begins with both
   abbrev pub met : At B → Known B E → ℕ → Known B E → Type 0
   met st m found m' = (m' ≡ m) × (m.0.room < m.0.seats)
-      × (m.0.seen ≡ longer m.0.one m.0.other → IsPrefix m.0.one m.0.seen × IsPrefix m.0.other m.0.seen)
+      × (m.0.seen ≡ longer m.0.one m.0.other
+      → IsPrefix m.0.one m.0.seen × IsPrefix m.0.other m.0.seen)

@@ -21,8 +21,8 @@ module _ {E : Type 0} (views : List (View E)) (j : ℕ) where
   abbrev pub IsHolder : Type 0
   IsHolder = (v : View E) × (get_elem? views j ≡ some v) × HasBook v.stage
 
--- what pass j knows is so: `over` says which passes were joined away, and pass `roomer` alone may have
--- room, which then is `room`
+-- what pass j knows is so: `over` says which passes were joined away, and pass `roomer` alone may
+-- have room, which then is `room`
 pub record Knows {E : Type 0} (author : E → ℕ) (seats : ℕ) (label : List ℤ) (journal : List E)
     (over : ℕ → Bool) (room roomer j : ℕ) (v : View E) : Type 0 where
   pub not_over : over j ≡ false
@@ -78,8 +78,8 @@ pub record Kept {B E : Type 0} (history : B → List E) (author : E → ℕ) (la
   -- journal and calls: what each pass that was not joined away knows
   pub knows : (j : ℕ) (v : View E) → get_elem? s.views j ≡ some v → is_live v.stage ≡ true
       → Knows author seats label journal over room roomer j v
-  -- numbers: as many were given as there are views, no later one was joined away, and no entry names
-  -- a later one
+  -- numbers: as many were given as there are views, no later one was joined away, and no entry
+  -- names a later one
   pub given : length s.views + room ≡ seats
   pub fresh : (n : ℕ) → length s.views ≤ n → over n ≡ false
   pub named : (k : ℕ) (e : E) → get_elem? journal k ≡ some e → author e < length s.views

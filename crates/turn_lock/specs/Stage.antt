@@ -1,7 +1,8 @@
 -- How far a lock pass has come with its turn: its ticket, and whether it has the book.
 use Rattle.std.specs.Prelude.{◌≡◌, ℕ, ◌<◌, ◌≤◌, Bool, true, false}
 use Rattle.turn_lock.specs.declared.stage.Stage.{Stage}
-use Rattle.turn_lock.specs.declared.stage.Stage.TheVariants.{Idle, Waits, Served, Has, Marked, Home, Ended}
+use Rattle.turn_lock.specs.declared.stage.Stage.TheVariants.{Idle, Waits, Served, Has, Marked, Home}
+use Rattle.turn_lock.specs.declared.stage.Stage.TheVariants.{Ended}
 
 -- where the book is: in the slot, or with the pass of this number
 pub data Whereabouts : Type 0 where
@@ -48,13 +49,17 @@ HasBook (Marked t) = Unit {0}
 HasBook (Home t) = ⊥
 HasBook Ended = ⊥
 
--- what holds of the stage of pass j: `owner` says who drew a ticket, `served` is the ticket whose turn it
--- is, `drawn` the next to give, and `away` where the book is
+-- what holds of the stage of pass j: `owner` says who drew a ticket, `served` is the ticket whose
+-- turn it is, `drawn` the next to give, and `away` where the book is
 abbrev pub Stands : (ℕ → ℕ) → ℕ → ℕ → Whereabouts → ℕ → Stage → Type 0
 Stands owner served drawn away j Idle = Unit {0}
 Stands owner served drawn away j (Waits t) = (served ≤ t) × (t < drawn) × (owner t ≡ j)
-Stands owner served drawn away j (Served t) = (t ≡ served) × (t < drawn) × (owner t ≡ j) × (away ≡ at_home)
-Stands owner served drawn away j (Has t) = (t ≡ served) × (t < drawn) × (owner t ≡ j) × (away ≡ with_pass j)
-Stands owner served drawn away j (Marked t) = (t ≡ served) × (t < drawn) × (owner t ≡ j) × (away ≡ with_pass j)
-Stands owner served drawn away j (Home t) = (t ≡ served) × (t < drawn) × (owner t ≡ j) × (away ≡ at_home)
+Stands owner served drawn away j (Served t) =
+    (t ≡ served) × (t < drawn) × (owner t ≡ j) × (away ≡ at_home)
+Stands owner served drawn away j (Has t) =
+    (t ≡ served) × (t < drawn) × (owner t ≡ j) × (away ≡ with_pass j)
+Stands owner served drawn away j (Marked t) =
+    (t ≡ served) × (t < drawn) × (owner t ≡ j) × (away ≡ with_pass j)
+Stands owner served drawn away j (Home t) =
+    (t ≡ served) × (t < drawn) × (owner t ≡ j) × (away ≡ at_home)
 Stands owner served drawn away j Ended = Unit {0}

@@ -6,8 +6,8 @@ use Rattle.turn_lock.specs.declared.view.View.{View}
 use Rattle.turn_lock.specs.History.{longer}
 
 module _ {E : Type 0} where
-  -- the view of a pass that knows its number, how many there can be, its room, the label and what it has
-  -- seen, and no more
+  -- the view of a pass that knows its number, how many there can be, its room, the label and what
+  -- it has seen, and no more
   abbrev pub plain : ℕ → ℕ → ℕ → List ℤ → List E → View E
   plain number seats room label seen = record {
     number = number;
@@ -35,7 +35,8 @@ module _ {E : Type 0} where
   abbrev pub with_journal : Stage → List E → View E → View E
   with_journal st es v = record v { stage = st; journal = es }
 
-  -- the view of a pass that marked the history es: it has seen all of it, and added what is new in it
+  -- the view of a pass that marked the history es: it has seen all of it, and added what is new in
+  -- it
   abbrev pub marked : Stage → List E → View E → View E
   marked st es v = record v {
     stage = st;
@@ -52,8 +53,8 @@ module _ {E : Type 0} where
   abbrev pub split_from : View E → View E
   split_from v = plain (v.seats - v.room) v.seats 0 v.label v.seen
 
-  -- the view v, after a pass with the view w was joined into it: the longer of what they have seen, the
-  -- room of both, and the number and the calls of w beside what it keeps
+  -- the view v, after a pass with the view w was joined into it: the longer of what they have seen,
+  -- the room of both, and the number and the calls of w beside what it keeps
   abbrev pub joined : View E → View E → View E
   joined v w = record v {
     room = v.room + w.room;
