@@ -1,13 +1,17 @@
--- Of two different pixels that a segment meets, the one met further along has the greater product with the direction d.
--- Let the point at a / b lie in pixel g, and that at a' / b' in pixel h. How far the two are from their centres, taken
--- together (`offsets`), is 2 (b' a - b a') d + 2 b b' (h - g), and it is below 2 b b' in size in each coordinate. A number
--- below B in size, times a whole k that isn't 0, is below B k². So the product of the offsets with h - g is below
--- 2 b b' times the square of h - g, and (b' a - b a') (d · (h - g)) is below 0.
+-- Of two different pixels that a segment meets, the one met further along has the greater product
+-- with the direction d. Let the point at a / b lie in pixel g, and that at a' / b' in pixel h. How
+-- far the two are from their centres, taken together (`offsets`), is
+-- 2 (b' a - b a') d + 2 b b' (h - g), and it is below 2 b b' in size in each coordinate. A number
+-- below B in size, times a whole k that isn't 0, is below B k². So the product of the offsets with
+-- h - g is below 2 b b' times the square of h - g, and (b' a - b a') (d · (h - g)) is below 0.
 
-use Rattle.std.proofs.Common.{◌≡◌, refl, ap, ◌∙◌, arith, [], ◌∷◌, IsTrue, inl, inr, ⊎_elim, Ordering, Less, Equal, Greater}
+use Rattle.std.proofs.Common.{◌≡◌, refl, ap, ◌∙◌, arith, [], ◌∷◌, IsTrue, inl, inr, ⊎_elim}
+use Rattle.std.proofs.Common.{Ordering, Less, Equal, Greater}
 use Rattle.std.specs.Prelude.{ℤ, pos, neg_ℤ, ◌+ℤ◌, ◌-ℤ◌, ◌*ℤ◌, ◌≤ℤ◌, ◌<ℤ◌, ◌⊎◌}
 use Rattle.grid_core.proofs.Signed.{signed}
-use Rattle.grid_core.proofs.Ring.{int_mul-le_left, int_mul-lt_left, int_mul-lt_right, int_mul_pos, int_lt_or_le, int_zero-mul, int_one-mul, int_add-mul, int_sub-mul, int_mul_comm, int_mul_nonpos_nonneg, int_neg-mul, int_mul-neg}
+use Rattle.grid_core.proofs.Ring.{int_mul-le_left, int_mul-lt_left, int_mul-lt_right, int_mul_pos}
+use Rattle.grid_core.proofs.Ring.{int_lt_or_le, int_zero-mul, int_one-mul, int_add-mul, int_sub-mul}
+use Rattle.grid_core.proofs.Ring.{int_mul_comm, int_mul_nonpos_nonneg, int_neg-mul, int_mul-neg}
 use Rattle.grid_core.proofs.Polynomial.{V, K, ◌⊕◌, ◌⊖◌, ◌⊗◌, same_polynomial}
 use Rattle.grid_core.proofs.MeetingPoint.{meets_where_a_point_lies}
 use Rattle.grid_core.proofs.Order.{point_exact, point_less, point_greater}
@@ -51,7 +55,8 @@ below_square B e k some low high = by (int_lt_or_le (pos 0) k) (int_lt_or_le k (
       ap (λ n. B *ℤ (n *ℤ n)) z ∙ int_mul_comm B (pos 0) ∙ int_zero-mul B,
     )
 
-    by : (pos 0 <ℤ k) ⊎ (k ≤ℤ pos 0) → (k <ℤ pos 0) ⊎ (pos 0 ≤ℤ k) → ((k ≡ pos 0) × (e *ℤ k ≡ pos 0) × (B *ℤ (k *ℤ k) ≡ pos 0)) ⊎ ((e *ℤ k) <ℤ (B *ℤ (k *ℤ k)))
+    by : (pos 0 <ℤ k) ⊎ (k ≤ℤ pos 0) → (k <ℤ pos 0) ⊎ (pos 0 ≤ℤ k)
+        → ((k ≡ pos 0) × (e *ℤ k ≡ pos 0) × (B *ℤ (k *ℤ k) ≡ pos 0)) ⊎ ((e *ℤ k) <ℤ (B *ℤ (k *ℤ k)))
     by (inl p) q = inr (below_square_up B e k some high p)
     by (inr p) (inl q) = inr (below_square_down B e k some low q)
     by (inr p) (inr q) = inl (none (omega (arith, signed, p, q)))
@@ -69,17 +74,21 @@ below_squares B e f k l (inr p) (inr q) apart = omega (arith, signed, p, q)
 
 -- twice how far the first point is from its centre, less the same of the second, times b b'
 offsets : (p d g h a b a' b' : ℤ) → ℤ
-offsets p d g h a b a' b' = b' *ℤ (pos 2 *ℤ (p *ℤ b +ℤ a *ℤ d) -ℤ pos 2 *ℤ g *ℤ b) -ℤ b *ℤ (pos 2 *ℤ (p *ℤ b' +ℤ a' *ℤ d) -ℤ pos 2 *ℤ h *ℤ b')
+offsets p d g h a b a' b' = b' *ℤ (pos 2 *ℤ (p *ℤ b +ℤ a *ℤ d) -ℤ pos 2 *ℤ g *ℤ b)
+    -ℤ b *ℤ (pos 2 *ℤ (p *ℤ b' +ℤ a' *ℤ d) -ℤ pos 2 *ℤ h *ℤ b')
 
-offsets_are : (p d g h a b a' b' : ℤ) → offsets p d g h a b a' b' ≡ pos 2 *ℤ ((b' *ℤ a -ℤ b *ℤ a') *ℤ d +ℤ (b *ℤ b') *ℤ (h -ℤ g))
+offsets_are : (p d g h a b a' b' : ℤ)
+    → offsets p d g h a b a' b' ≡ pos 2 *ℤ ((b' *ℤ a -ℤ b *ℤ a') *ℤ d +ℤ (b *ℤ b') *ℤ (h -ℤ g))
 unfolding offsets
 offsets_are p d g h a b a' b' =
     same_polynomial (p ∷ d ∷ g ∷ h ∷ a ∷ b ∷ a' ∷ b' ∷ [])
-    (V 7 ⊗ (K (pos 2) ⊗ (V 0 ⊗ V 5 ⊕ V 4 ⊗ V 1) ⊖ K (pos 2) ⊗ V 2 ⊗ V 5) ⊖ V 5 ⊗ (K (pos 2) ⊗ (V 0 ⊗ V 7 ⊕ V 6 ⊗ V 1) ⊖ K (pos 2) ⊗ V 3 ⊗ V 7))
+    (V 7 ⊗ (K (pos 2) ⊗ (V 0 ⊗ V 5 ⊕ V 4 ⊗ V 1) ⊖ K (pos 2) ⊗ V 2 ⊗ V 5)
+    ⊖ V 5 ⊗ (K (pos 2) ⊗ (V 0 ⊗ V 7 ⊕ V 6 ⊗ V 1) ⊖ K (pos 2) ⊗ V 3 ⊗ V 7))
     (K (pos 2) ⊗ ((V 7 ⊗ V 4 ⊖ V 5 ⊗ V 6) ⊗ V 1 ⊕ (V 5 ⊗ V 7) ⊗ (V 3 ⊖ V 2))) refl
 
 -- a coordinate in pixel g is half of a pixel to the left of its centre, at most, and less than half to the right
-around : (n g b : ℤ) → IsFromTo g g n b → (neg_ℤ b ≤ℤ (pos 2 *ℤ n -ℤ pos 2 *ℤ g *ℤ b)) × ((pos 2 *ℤ n -ℤ pos 2 *ℤ g *ℤ b) <ℤ b)
+around : (n g b : ℤ) → IsFromTo g g n b
+    → (neg_ℤ b ≤ℤ (pos 2 *ℤ n -ℤ pos 2 *ℤ g *ℤ b)) × ((pos 2 *ℤ n -ℤ pos 2 *ℤ g *ℤ b) <ℤ b)
 around n g b w =
     let low = w.low in
     let high = w.high in
@@ -101,7 +110,8 @@ between_two b b' u u' some some' low high low' high' =
     let minus' = int_mul-neg b b' in
     (omega (arith, signed, second, third, turned, minus), omega (arith, signed, first, fourth, turned, minus'))
 
-offsets_within : (p d g h a b a' b' : ℤ) → pos 0 <ℤ b → pos 0 <ℤ b' → IsFromTo g g (p *ℤ b +ℤ a *ℤ d) b → IsFromTo h h (p *ℤ b' +ℤ a' *ℤ d) b'
+offsets_within : (p d g h a b a' b' : ℤ) → pos 0 <ℤ b → pos 0 <ℤ b'
+    → IsFromTo g g (p *ℤ b +ℤ a *ℤ d) b → IsFromTo h h (p *ℤ b' +ℤ a' *ℤ d) b'
     → (neg_ℤ (pos 2 *ℤ (b *ℤ b')) <ℤ offsets p d g h a b a' b') × (offsets p d g h a b a' b' <ℤ (pos 2 *ℤ (b *ℤ b')))
 unfolding offsets
 offsets_within p d g h a b a' b' some some' w w' =
@@ -118,7 +128,8 @@ offsets_along : (m b dx dy gx gy hx hy : ℤ)
     +ℤ ((pos 2 *ℤ b) *ℤ ((hx -ℤ gx) *ℤ (hx -ℤ gx)) +ℤ (pos 2 *ℤ b) *ℤ ((hy -ℤ gy) *ℤ (hy -ℤ gy)))
 offsets_along m b dx dy gx gy hx hy =
     same_polynomial (m ∷ b ∷ dx ∷ dy ∷ gx ∷ gy ∷ hx ∷ hy ∷ [])
-    ((K (pos 2) ⊗ (V 0 ⊗ V 2 ⊕ V 1 ⊗ (V 6 ⊖ V 4))) ⊗ (V 6 ⊖ V 4) ⊕ (K (pos 2) ⊗ (V 0 ⊗ V 3 ⊕ V 1 ⊗ (V 7 ⊖ V 5))) ⊗ (V 7 ⊖ V 5))
+    ((K (pos 2) ⊗ (V 0 ⊗ V 2 ⊕ V 1 ⊗ (V 6 ⊖ V 4))) ⊗ (V 6 ⊖ V 4)
+    ⊕ (K (pos 2) ⊗ (V 0 ⊗ V 3 ⊕ V 1 ⊗ (V 7 ⊖ V 5))) ⊗ (V 7 ⊖ V 5))
     (K (pos 2) ⊗ (V 0 ⊗ ((V 6 ⊗ V 2 ⊕ V 7 ⊗ V 3) ⊖ (V 4 ⊗ V 2 ⊕ V 5 ⊗ V 3)))
     ⊕ ((K (pos 2) ⊗ V 1) ⊗ ((V 6 ⊖ V 4) ⊗ (V 6 ⊖ V 4)) ⊕ (K (pos 2) ⊗ V 1) ⊗ ((V 7 ⊖ V 5) ⊗ (V 7 ⊖ V 5)))) refl
 
@@ -128,7 +139,8 @@ pub product_rises : (s : Segment) (g h : Point) (a b a' b' : ℤ) → pos 0 <ℤ
     → (h.x -ℤ g.x ≡ pos 0 → h.y -ℤ g.y ≡ pos 0 → ⊥)
     → ((b' *ℤ a -ℤ b *ℤ a') *ℤ (dot_of h (direction s) -ℤ dot_of g (direction s))) <ℤ pos 0
 product_rises s g h a b a' b' some some' w w' apart =
-    let positive : pos 0 <ℤ (pos 2 *ℤ (b *ℤ b')) = int_mul_pos (pos 2) (b *ℤ b') (omega (arith, signed)) (int_mul_pos b b' some some') in
+    let positive : pos 0 <ℤ (pos 2 *ℤ (b *ℤ b')) =
+    int_mul_pos (pos 2) (b *ℤ b') (omega (arith, signed)) (int_mul_pos b b' some some') in
     let x = offsets_within s.p.x (direction s).x g.x h.x a b a' b' some some' w.x w'.x in
     let y = offsets_within s.p.y (direction s).y g.y h.y a b a' b' some some' w.y w'.y in
     let below =
@@ -160,7 +172,10 @@ one_product s g h m n e = by ((meets_where_a_point_lies s (box_of g)).0 m) ((mee
     by w v =
         ⊎_elim (λ (same : g ≡ h). same)
         (λ (apart : h.x -ℤ g.x ≡ pos 0 → h.y -ℤ g.y ≡ pos 0 → ⊥).
-        let rises = product_rises s g h (pos w.a) (pos w.b) (pos v.a) (pos v.b) (omega (arith, signed, w.whole)) (omega (arith, signed, v.whole)) w.inside v.inside apart in
+        let rises =
+        product_rises s g h (pos w.a) (pos w.b) (pos v.a) (pos v.b)
+        (omega (arith, signed, w.whole)) (omega (arith, signed, v.whole)) w.inside v.inside
+        apart in
         let level = ap (λ n. (pos v.b *ℤ pos w.a -ℤ pos w.b *ℤ pos v.a) *ℤ (dot_of h (direction s) -ℤ n)) e in
         let none = ap (λ n. (pos v.b *ℤ pos w.a -ℤ pos w.b *ℤ pos v.a) *ℤ n) (nothing (dot_of h (direction s))) in
         let zero = int_mul_comm (pos v.b *ℤ pos w.a -ℤ pos w.b *ℤ pos v.a) (pos 0) in
@@ -190,7 +205,11 @@ starts_in_p s =
       b = 1;
       part = omega arith;
       whole = omega arith;
-      inside = record { x = centred _ s.p.x (at_start s.p.x (direction s).x); y = centred _ s.p.y (at_start s.p.y (direction s).y) };
+      inside = record {
+        x = centred _ s.p.x (at_start s.p.x (direction s).x);
+        y = centred _ s.p.y
+            (at_start s.p.y (direction s).y);
+      };
     }
 
 ends_in_q : (s : Segment) → HasPointIn s (box_of s.q)
@@ -218,35 +237,48 @@ rises_by c n h k =
     (int_lt_or_le (pos 0) n)
 
 -- every other pixel that s meets has a greater product than p
-pub beyond_p : (s : Segment) (h : Point) → IsTrue (meets_pixel_of s h) → (s.p ≡ h) ⊎ (dot_of s.p (direction s) <ℤ dot_of h (direction s))
+pub beyond_p : (s : Segment) (h : Point) → IsTrue (meets_pixel_of s h)
+    → (s.p ≡ h) ⊎ (dot_of s.p (direction s) <ℤ dot_of h (direction s))
 unfolding starts_in_p
 beyond_p s h m = by ((meets_where_a_point_lies s (box_of h)).0 m) (same_or_apart s.p h)
   where
     from_start : (a b n : ℤ) → (b *ℤ pos 0 -ℤ pos 1 *ℤ a) *ℤ n ≡ pos 0 -ℤ n *ℤ a
-    from_start a b n = same_polynomial (a ∷ b ∷ n ∷ []) ((V 1 ⊗ K (pos 0) ⊖ K (pos 1) ⊗ V 0) ⊗ V 2) (K (pos 0) ⊖ V 2 ⊗ V 0) refl
+    from_start a b n = same_polynomial (a ∷ b ∷ n ∷ []) ((V 1 ⊗ K (pos 0) ⊖ K (pos 1) ⊗ V 0) ⊗ V 2)
+        (K (pos 0) ⊖ V 2 ⊗ V 0) refl
 
     by : HasPointIn s (box_of h) → (s.p ≡ h) ⊎ (h.x -ℤ s.p.x ≡ pos 0 → h.y -ℤ s.p.y ≡ pos 0 → ⊥)
         → (s.p ≡ h) ⊎ (dot_of s.p (direction s) <ℤ dot_of h (direction s))
     by w (inl same) = inl same
     by w (inr apart) =
-        let rises = product_rises s s.p h (pos 0) (pos 1) (pos w.a) (pos w.b) (omega (arith, signed)) (omega (arith, signed, w.whole)) (starts_in_p s).inside w.inside apart in
+        let rises =
+        product_rises s s.p h (pos 0) (pos 1) (pos w.a) (pos w.b) (omega (arith, signed))
+        (omega (arith, signed, w.whole)) (starts_in_p s).inside w.inside apart in
         let turned = from_start (pos w.a) (pos w.b) (dot_of h (direction s) -ℤ dot_of s.p (direction s)) in
-        let above = rises_by (pos w.a) (dot_of h (direction s) -ℤ dot_of s.p (direction s)) (omega (arith, signed)) (omega (arith, signed, rises, turned)) in
+        let above =
+        rises_by (pos w.a) (dot_of h (direction s) -ℤ dot_of s.p (direction s))
+        (omega (arith, signed)) (omega (arith, signed, rises, turned)) in
         inr (omega (arith, signed, above))
 
 -- every other pixel that s meets has a lesser product than q
-pub short_of_q : (s : Segment) (h : Point) → IsTrue (meets_pixel_of s h) → (h ≡ s.q) ⊎ (dot_of h (direction s) <ℤ dot_of s.q (direction s))
+pub short_of_q : (s : Segment) (h : Point) → IsTrue (meets_pixel_of s h)
+    → (h ≡ s.q) ⊎ (dot_of h (direction s) <ℤ dot_of s.q (direction s))
 unfolding ends_in_q
 short_of_q s h m = by ((meets_where_a_point_lies s (box_of h)).0 m) (same_or_apart h s.q)
   where
     to_end : (a b n : ℤ) → (pos 1 *ℤ a -ℤ b *ℤ pos 1) *ℤ n ≡ pos 0 -ℤ n *ℤ (b -ℤ a)
-    to_end a b n = same_polynomial (a ∷ b ∷ n ∷ []) ((K (pos 1) ⊗ V 0 ⊖ V 1 ⊗ K (pos 1)) ⊗ V 2) (K (pos 0) ⊖ V 2 ⊗ (V 1 ⊖ V 0)) refl
+    to_end a b n = same_polynomial (a ∷ b ∷ n ∷ []) ((K (pos 1) ⊗ V 0 ⊖ V 1 ⊗ K (pos 1)) ⊗ V 2)
+        (K (pos 0) ⊖ V 2 ⊗ (V 1 ⊖ V 0)) refl
 
     by : HasPointIn s (box_of h) → (h ≡ s.q) ⊎ (s.q.x -ℤ h.x ≡ pos 0 → s.q.y -ℤ h.y ≡ pos 0 → ⊥)
         → (h ≡ s.q) ⊎ (dot_of h (direction s) <ℤ dot_of s.q (direction s))
     by w (inl same) = inl same
     by w (inr apart) =
-        let rises = product_rises s h s.q (pos w.a) (pos w.b) (pos 1) (pos 1) (omega (arith, signed, w.whole)) (omega (arith, signed)) w.inside (ends_in_q s).inside apart in
+        let rises =
+        product_rises s h s.q (pos w.a) (pos w.b) (pos 1) (pos 1)
+        (omega (arith, signed, w.whole)) (omega (arith, signed)) w.inside (ends_in_q s).inside
+        apart in
         let turned = to_end (pos w.a) (pos w.b) (dot_of s.q (direction s) -ℤ dot_of h (direction s)) in
-        let above = rises_by (pos w.b -ℤ pos w.a) (dot_of s.q (direction s) -ℤ dot_of h (direction s)) (omega (arith, signed, w.part)) (omega (arith, signed, rises, turned)) in
+        let above =
+        rises_by (pos w.b -ℤ pos w.a) (dot_of s.q (direction s) -ℤ dot_of h (direction s))
+        (omega (arith, signed, w.part)) (omega (arith, signed, rises, turned)) in
         inr (omega (arith, signed, above))

@@ -2,11 +2,14 @@
 -- A solution u / v gives room by cross products. The other way round, one of the lower bounds is greatest and one of
 -- the upper bounds is least, by induction on the list; the middle of these two meets every constraint of the list.
 
-use Rattle.std.proofs.Common.{◌≡◌, refl, ap, subst, ◌∙◌, arith, Bool, true, false, ◌&&◌, ◌||◌, not, List, [], ◌∷◌, IsTrue, ⊎_elim, inl, inr}
+use Rattle.std.proofs.Common.{◌≡◌, refl, ap, subst, ◌∙◌, arith, Bool, true, false, ◌&&◌, ◌||◌, not}
+use Rattle.std.proofs.Common.{List, [], ◌∷◌, IsTrue, ⊎_elim, inl, inr}
 use Rattle.std.specs.Prelude.{ℤ, pos, neg_ℤ, ◌+ℤ◌, ◌-ℤ◌, ◌*ℤ◌, ◌≤ℤ◌, ◌<ℤ◌, ◌⊎◌, int_lt}
 use Rattle.std.specs.List.{AllByRecursion, list_all}
 use Rattle.grid_core.proofs.Signed.{signed, lt_true, lt_false, le_true, from_lt_true, from_lt_false, from_le_true}
-use Rattle.grid_core.proofs.Ring.{int_mul_pos, int_mul_nonneg, int_mul_neg_pos, int_mul-neg, int_lt_of_mul, int_le_of_mul, int_lt_or_le, int_zero-mul, int_mul_comm}
+use Rattle.grid_core.proofs.Ring.{int_mul_pos, int_mul_nonneg, int_mul_neg_pos, int_mul-neg}
+use Rattle.grid_core.proofs.Ring.{int_lt_of_mul, int_le_of_mul, int_lt_or_le, int_zero-mul}
+use Rattle.grid_core.proofs.Ring.{int_mul_comm}
 use Rattle.grid_core.proofs.Polynomial.{V, K, ◌⊕◌, ◌⊖◌, ◌⊗◌, same_polynomial}
 use Rattle.grid_core.specs.Meets.{Constraint, is_kept, holds_alone, leave_room}
 
@@ -41,16 +44,21 @@ module _ {X : Type 0} where
   all_then P Q (x ∷ xs) f h = (f x h.0, all_then P Q xs f h.1)
 
   -- what follows for each element of two facts
-  all_both : (P Q R : X → Type 0) (xs : List X) → ((x : X) → P x → Q x → R x) → AllByRecursion P xs → AllByRecursion Q xs → AllByRecursion R xs
+  all_both : (P Q R : X → Type 0) (xs : List X) → ((x : X) → P x → Q x → R x) → AllByRecursion P xs
+      → AllByRecursion Q xs → AllByRecursion R xs
   all_both P Q R [] f h k = tt
   all_both P Q R (x ∷ xs) f h k = (f x h.0 k.0, all_both P Q R xs f h.1 k.1)
 
   -- for each of the one list each of the other, or the other way round
-  all_turned : (P : X → X → Type 0) (xs ys : List X) → AllByRecursion (λ x. AllByRecursion (P x) ys) xs → AllByRecursion (λ y. AllByRecursion (λ x. P x y) xs) ys
+  all_turned : (P : X → X → Type 0) (xs ys : List X)
+      → AllByRecursion (λ x. AllByRecursion (P x) ys) xs
+      → AllByRecursion (λ y. AllByRecursion (λ x. P x y) xs) ys
   all_turned P [] [] h = tt
   all_turned P [] (y ∷ ys) h = (tt, all_turned P [] ys tt)
   all_turned P (x ∷ xs) ys h =
-      all_both (P x) (λ y. AllByRecursion (λ z. P z y) xs) (λ y. P x y × AllByRecursion (λ z. P z y) xs) ys (λ y p q. (p, q)) h.0 (all_turned P xs ys h.1)
+      all_both (P x) (λ y. AllByRecursion (λ z. P z y) xs)
+      (λ y. P x y × AllByRecursion (λ z. P z y) xs) ys (λ y p q. (p, q)) h.0
+      (all_turned P xs ys h.1)
 
 -- ---- what is kept
 
@@ -63,7 +71,8 @@ kept_same strict y z e h = subst (λ w. IsTrue (is_kept strict w)) e h
 
 kept_times : (strict : Bool) (k z : ℤ) → pos 0 <ℤ k → IsTrue (is_kept strict z) → IsTrue (is_kept strict (k *ℤ z))
 kept_times true k z h p = lt_true (pos 0) (k *ℤ z) (int_mul_pos k z h (from_lt_true (pos 0) z p))
-kept_times false k z h p = le_true (pos 0) (k *ℤ z) (int_mul_nonneg k z (omega (arith, signed, h)) (from_le_true (pos 0) z p))
+kept_times false k z h p = le_true (pos 0) (k *ℤ z) (int_mul_nonneg k z (omega (arith, signed, h))
+    (from_le_true (pos 0) z p))
 
 kept_of_times : (strict : Bool) (k z : ℤ) → pos 0 <ℤ k → IsTrue (is_kept strict (k *ℤ z)) → IsTrue (is_kept strict z)
 kept_of_times true k z h p =
@@ -148,15 +157,20 @@ room_if_met : (u v : ℤ) → pos 0 <ℤ v → (c e : Constraint) → IsMet u v 
 room_if_met u v h c e m n =
     if_both (int_lt (pos 0) c.b) (int_lt e.b (pos 0)) (is_kept (c.strict || e.strict) (e.a *ℤ c.b -ℤ c.a *ℤ e.b)) by
   where
-    by : int_lt (pos 0) c.b ≡ true → int_lt e.b (pos 0) ≡ true → IsTrue (is_kept (c.strict || e.strict) (e.a *ℤ c.b -ℤ c.a *ℤ e.b))
+    by : int_lt (pos 0) c.b ≡ true → int_lt e.b (pos 0) ≡ true
+        → IsTrue (is_kept (c.strict || e.strict) (e.a *ℤ c.b -ℤ c.a *ℤ e.b))
     by p q =
         let low = from_lt_true (pos 0) c.b p in
         let high = from_lt_true e.b (pos 0) q in
         let first = kept_times c.strict (neg_ℤ e.b) (c.a *ℤ v +ℤ c.b *ℤ u) (omega (arith, signed, high)) m in
         let second = kept_times e.strict c.b (e.a *ℤ v +ℤ e.b *ℤ u) low n in
-        let both = kept_sum c.strict e.strict (neg_ℤ e.b *ℤ (c.a *ℤ v +ℤ c.b *ℤ u)) (c.b *ℤ (e.a *ℤ v +ℤ e.b *ℤ u)) first second in
+        let both =
+        kept_sum c.strict e.strict (neg_ℤ e.b *ℤ (c.a *ℤ v +ℤ c.b *ℤ u))
+        (c.b *ℤ (e.a *ℤ v +ℤ e.b *ℤ u)) first second in
         kept_of_times (c.strict || e.strict) v (e.a *ℤ c.b -ℤ c.a *ℤ e.b) h
-        (kept_same (c.strict || e.strict) (neg_ℤ e.b *ℤ (c.a *ℤ v +ℤ c.b *ℤ u) +ℤ c.b *ℤ (e.a *ℤ v +ℤ e.b *ℤ u)) (v *ℤ (e.a *ℤ c.b -ℤ c.a *ℤ e.b)) (cleared u v c.a c.b e.a e.b) both)
+        (kept_same (c.strict || e.strict) (neg_ℤ e.b *ℤ (c.a *ℤ v +ℤ c.b *ℤ u)
+        +ℤ c.b *ℤ (e.a *ℤ v +ℤ e.b *ℤ u)) (v *ℤ (e.a *ℤ c.b -ℤ c.a *ℤ e.b))
+        (cleared u v c.a c.b e.a e.b) both)
 
 -- each constraint holds alone, and each two leave room
 abbrev pub HasRoom : List Constraint → Type 0
@@ -168,10 +182,12 @@ pub room_if_all_met : (u v : ℤ) (cs : List Constraint) → pos 0 <ℤ v → Al
 room_if_all_met u v cs h m =
     both_true (list_all holds_alone cs) (list_all (λ c. list_all (leave_room c) cs) cs)
     (all_true holds_alone cs (all_then (IsMet u v) (λ c. IsTrue (holds_alone c)) cs (alone_if_met u v h) m))
-    (all_true (λ c. list_all (leave_room c) cs) cs (all_then (IsMet u v) (λ c. IsTrue (list_all (leave_room c) cs)) cs row m))
+    (all_true (λ c. list_all (leave_room c) cs) cs
+    (all_then (IsMet u v) (λ c. IsTrue (list_all (leave_room c) cs)) cs row m))
   where
     row : (c : Constraint) → IsMet u v c → IsTrue (list_all (leave_room c) cs)
-    row c k = all_true (leave_room c) cs (all_then (IsMet u v) (λ e. IsTrue (leave_room c e)) cs (λ e l. room_if_met u v h c e k l) m)
+    row c k = all_true (leave_room c) cs (all_then (IsMet u v) (λ e. IsTrue (leave_room c e)) cs
+        (λ e l. room_if_met u v h c e k l) m)
 
 -- ---- from room to a solution
 
@@ -182,17 +198,27 @@ record Tightest (Φ : Constraint → Type 0) (f : Constraint → ℤ) (cs : List
   holds : Φ one
   tightest : AllByRecursion (λ c. pos 0 <ℤ f c → pos 0 ≤ℤ (c.a *ℤ f one -ℤ one.a *ℤ f c)) cs
 
-tighter : (a m b n c k : ℤ) → pos 0 <ℤ m → pos 0 <ℤ n → pos 0 <ℤ k → pos 0 ≤ℤ (a *ℤ n -ℤ b *ℤ m) → pos 0 ≤ℤ (b *ℤ k -ℤ c *ℤ n) → pos 0 ≤ℤ (a *ℤ k -ℤ c *ℤ m)
+tighter : (a m b n c k : ℤ) → pos 0 <ℤ m → pos 0 <ℤ n → pos 0 <ℤ k → pos 0 ≤ℤ (a *ℤ n -ℤ b *ℤ m)
+    → pos 0 ≤ℤ (b *ℤ k -ℤ c *ℤ n) → pos 0 ≤ℤ (a *ℤ k -ℤ c *ℤ m)
 tighter a m b n c k hm hn hk p q =
     let first = int_mul_nonneg k (a *ℤ n -ℤ b *ℤ m) (omega (arith, signed, hk)) p in
     let second = int_mul_nonneg m (b *ℤ k -ℤ c *ℤ n) (omega (arith, signed, hm)) q in
     let sum : k *ℤ (a *ℤ n -ℤ b *ℤ m) +ℤ m *ℤ (b *ℤ k -ℤ c *ℤ n) ≡ n *ℤ (a *ℤ k -ℤ c *ℤ m) =
     same_polynomial (a ∷ m ∷ b ∷ n ∷ c ∷ k ∷ [])
     (V 5 ⊗ (V 0 ⊗ V 3 ⊖ V 2 ⊗ V 1) ⊕ V 1 ⊗ (V 2 ⊗ V 5 ⊖ V 4 ⊗ V 3)) (V 3 ⊗ (V 0 ⊗ V 5 ⊖ V 4 ⊗ V 1)) refl in
-    int_le_of_mul n (pos 0) (a *ℤ k -ℤ c *ℤ m) hn (omega (arith, signed, first, second, sum, int_mul_comm n (pos 0), int_zero-mul n))
+    int_le_of_mul n (pos 0) (a *ℤ k -ℤ c *ℤ m) hn (omega (
+      arith,
+      signed,
+      first,
+      second,
+      sum,
+      int_mul_comm n (pos 0),
+      int_zero-mul n,
+    ))
 
 module _ (Φ : Constraint → Type 0) (f : Constraint → ℤ) where
-  tightest_of : (c : Constraint) (cs : List Constraint) → pos 0 <ℤ f c → Φ c → AllByRecursion Φ cs → Tightest Φ f (c ∷ cs)
+  tightest_of : (c : Constraint) (cs : List Constraint) → pos 0 <ℤ f c → Φ c → AllByRecursion Φ cs
+      → Tightest Φ f (c ∷ cs)
   tightest_of c [] h p ps = record { one = c; bounds = h; holds = p; tightest = (λ k. omega (arith, signed), tt) }
   tightest_of c (d ∷ ds) h p ps =
       ⊎_elim
@@ -210,7 +236,8 @@ module _ (Φ : Constraint → Type 0) (f : Constraint → ℤ) where
             bounds = t.bounds;
             holds = t.holds;
             tightest = (
-              λ m. tighter c.a (f c) d.a (f d) t.one.a (f t.one) h k t.bounds (omega (arith, signed, l)) (t.tightest.0 k),
+              λ m. tighter c.a (f c) d.a (f d) t.one.a (f t.one) h k t.bounds
+                  (omega (arith, signed, l)) (t.tightest.0 k),
               t.tightest,
             );
           }
@@ -256,22 +283,29 @@ middle_parts a b p q r t =
     (V 0 ⊗ (K (pos 0) ⊖ K (pos 2) ⊗ (V 3 ⊗ V 5)) ⊕ V 1 ⊗ (V 4 ⊗ V 3 ⊕ V 2 ⊗ V 5)) refl
 
 -- the middle meets every constraint between the two bounds
-met_by_middle : (l e c : Constraint) → pos 0 <ℤ l.b → e.b <ℤ pos 0 → Between l e c → IsMet (middle_num l e) (middle_den l e) c
+met_by_middle : (l e c : Constraint) → pos 0 <ℤ l.b → e.b <ℤ pos 0 → Between l e c
+    → IsMet (middle_num l e) (middle_den l e) c
 met_by_middle l e c h k w = by (int_lt_or_le (pos 0) c.b) (int_lt_or_le c.b (pos 0))
   where
     down : pos 0 <ℤ neg_ℤ e.b
     down = omega (arith, signed, k)
 
-    joined : IsTrue (is_kept c.strict (neg_ℤ e.b *ℤ (c.a *ℤ l.b -ℤ l.a *ℤ c.b) +ℤ l.b *ℤ (e.a *ℤ c.b -ℤ c.a *ℤ e.b))) → IsMet (middle_num l e) (middle_den l e) c
+    joined : IsTrue
+        (is_kept c.strict (neg_ℤ e.b *ℤ (c.a *ℤ l.b -ℤ l.a *ℤ c.b)
+        +ℤ l.b *ℤ (e.a *ℤ c.b -ℤ c.a *ℤ e.b)))
+        → IsMet (middle_num l e) (middle_den l e) c
     joined p = kept_same c.strict _ _ (middle_parts c.a c.b l.a l.b e.a e.b) p
 
-    by_low : IsTrue (is_kept c.strict (c.a *ℤ l.b -ℤ l.a *ℤ c.b)) → pos 0 ≤ℤ (e.a *ℤ c.b -ℤ c.a *ℤ e.b) → IsMet (middle_num l e) (middle_den l e) c
+    by_low : IsTrue (is_kept c.strict (c.a *ℤ l.b -ℤ l.a *ℤ c.b))
+        → pos 0 ≤ℤ (e.a *ℤ c.b -ℤ c.a *ℤ e.b) → IsMet (middle_num l e) (middle_den l e) c
     by_low p q =
         joined (kept_plus c.strict (neg_ℤ e.b *ℤ (c.a *ℤ l.b -ℤ l.a *ℤ c.b)) (l.b *ℤ (e.a *ℤ c.b -ℤ c.a *ℤ e.b))
         (kept_times c.strict (neg_ℤ e.b) (c.a *ℤ l.b -ℤ l.a *ℤ c.b) down p)
         (int_mul_nonneg l.b (e.a *ℤ c.b -ℤ c.a *ℤ e.b) (omega (arith, signed, h)) q))
 
-    by_high : pos 0 ≤ℤ (c.a *ℤ l.b -ℤ l.a *ℤ c.b) → IsTrue (is_kept c.strict (e.a *ℤ c.b -ℤ c.a *ℤ e.b)) → IsMet (middle_num l e) (middle_den l e) c
+    by_high : pos 0 ≤ℤ (c.a *ℤ l.b -ℤ l.a *ℤ c.b)
+        → IsTrue (is_kept c.strict (e.a *ℤ c.b -ℤ c.a *ℤ e.b))
+        → IsMet (middle_num l e) (middle_den l e) c
     by_high p q =
         joined (kept_onto c.strict (neg_ℤ e.b *ℤ (c.a *ℤ l.b -ℤ l.a *ℤ c.b)) (l.b *ℤ (e.a *ℤ c.b -ℤ c.a *ℤ e.b))
         (int_mul_nonneg (neg_ℤ e.b) (c.a *ℤ l.b -ℤ l.a *ℤ c.b) (omega (arith, signed, down)) p)
@@ -336,12 +370,17 @@ between_all l e (c ∷ cs) alone above below lower upper = (
 
 module _ (cs : List Constraint) (room : HasRoom cs) where
   alone_all : AllByRecursion (λ c. IsTrue (holds_alone c)) cs
-  alone_all = all_of holds_alone cs (first_true (list_all holds_alone cs) (list_all (λ c. list_all (leave_room c) cs) cs) room)
+  alone_all =
+      all_of holds_alone cs (first_true (list_all holds_alone cs)
+      (list_all (λ c. list_all (leave_room c) cs) cs) room)
 
   rows : AllByRecursion (λ c. AllByRecursion (λ e. IsTrue (leave_room c e)) cs) cs
   rows =
-      all_then (λ c. IsTrue (list_all (leave_room c) cs)) (λ c. AllByRecursion (λ e. IsTrue (leave_room c e)) cs) cs (λ c h. all_of (leave_room c) cs h)
-      (all_of (λ c. list_all (leave_room c) cs) cs (second_true (list_all holds_alone cs) (list_all (λ c. list_all (leave_room c) cs) cs) room))
+      all_then (λ c. IsTrue (list_all (leave_room c) cs))
+      (λ c. AllByRecursion (λ e. IsTrue (leave_room c e)) cs) cs
+      (λ c h. all_of (leave_room c) cs h)
+      (all_of (λ c. list_all (leave_room c) cs) cs (second_true (list_all holds_alone cs)
+      (list_all (λ c. list_all (leave_room c) cs) cs) room))
 
   columns : AllByRecursion (λ e. AllByRecursion (λ c. IsTrue (leave_room c e)) cs) cs
   columns = all_turned (λ c e. IsTrue (leave_room c e)) cs cs rows
@@ -371,5 +410,7 @@ solution_of_room c d cs h k room =
     let across = rows (c ∷ d ∷ cs) room in
     let along = columns (c ∷ d ∷ cs) room in
     solution_between (c ∷ d ∷ cs) room c d
-    (tightest_of (λ x. AllByRecursion (λ e. IsTrue (leave_room x e)) (c ∷ d ∷ cs)) (λ x. x.b) c (c ∷ d ∷ cs) h across.0 across)
-    (tightest_of (λ e. AllByRecursion (λ x. IsTrue (leave_room x e)) (c ∷ d ∷ cs)) (λ x. neg_ℤ x.b) d (c ∷ d ∷ cs) (omega (arith, signed, k)) along.1.0 along)
+    (tightest_of (λ x. AllByRecursion (λ e. IsTrue (leave_room x e)) (c ∷ d ∷ cs)) (λ x. x.b) c
+    (c ∷ d ∷ cs) h across.0 across)
+    (tightest_of (λ e. AllByRecursion (λ x. IsTrue (leave_room x e)) (c ∷ d ∷ cs)) (λ x. neg_ℤ x.b)
+    d (c ∷ d ∷ cs) (omega (arith, signed, k)) along.1.0 along)

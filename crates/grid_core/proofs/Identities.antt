@@ -38,7 +38,9 @@ lagrange d e =
     ((V 0 ⊗ V 0 ⊕ V 1 ⊗ V 1) ⊗ (V 2 ⊗ V 2 ⊕ V 3 ⊗ V 3)) refl
 
 -- Plücker: for four directions, the three ways to pair them
-pub plucker : (a b c d : Point) → cross_of a b *ℤ cross_of c d -ℤ cross_of a c *ℤ cross_of b d +ℤ cross_of a d *ℤ cross_of b c ≡ pos 0
+pub plucker : (a b c d : Point)
+    → cross_of a b *ℤ cross_of c d -ℤ cross_of a c *ℤ cross_of b d +ℤ cross_of a d *ℤ cross_of b c
+    ≡ pos 0
 plucker a b c d =
     same_polynomial (a.x ∷ a.y ∷ b.x ∷ b.y ∷ c.x ∷ c.y ∷ d.x ∷ d.y ∷ [])
     ((V 0 ⊗ V 3 ⊖ V 1 ⊗ V 2) ⊗ (V 4 ⊗ V 7 ⊖ V 5 ⊗ V 6) ⊖ (V 0 ⊗ V 5 ⊖ V 1 ⊗ V 4) ⊗ (V 2 ⊗ V 7 ⊖ V 3 ⊗ V 6)

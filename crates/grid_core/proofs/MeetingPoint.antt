@@ -1,5 +1,6 @@
 -- A segment meets a box exactly where a point of it lies in the box.
--- The six constraints at t = u / v, times v, are that u / v is from 0 to 1 and that the point lies between the four sides.
+-- The six constraints at t = u / v, times v, are that u / v is from 0 to 1 and that the point lies
+-- between the four sides.
 
 use Rattle.std.proofs.Common.{◌≡◌, refl, arith, true, false, [], ◌∷◌, IsTrue}
 use Rattle.std.specs.Prelude.{ℤ, pos, negsuc, ◌+ℤ◌, ◌-ℤ◌, ◌*ℤ◌, ◌≤ℤ◌, ◌<ℤ◌}
@@ -72,7 +73,8 @@ all_met s area u v h k w = (
 )
 
 -- where u / v meets the six, it is the point of the segment there
-in_box : (s : Segment) (area : PixelBox) (u v : ℤ) → AllByRecursion (IsMet u v) (constraints s area) → IsInBox area (point_along s u v)
+in_box : (s : Segment) (area : PixelBox) (u v : ℤ) → AllByRecursion (IsMet u v) (constraints s area)
+    → IsInBox area (point_along s u v)
 in_box s area u v m =
     record {
       x = record {
@@ -86,8 +88,16 @@ in_box s area u v m =
     }
 
 -- whole numbers that aren't negative are the natural ones
-as_naturals : (s : Segment) (area : PixelBox) (u v : ℤ) → pos 0 ≤ℤ u → u ≤ℤ v → pos 0 <ℤ v → IsInBox area (point_along s u v) → HasPointIn s area
-as_naturals s area (pos a) (pos b) h k l w = record { a = a; b = b; part = omega (arith, signed, k); whole = omega (arith, signed, l); inside = w }
+as_naturals : (s : Segment) (area : PixelBox) (u v : ℤ) → pos 0 ≤ℤ u → u ≤ℤ v → pos 0 <ℤ v
+    → IsInBox area (point_along s u v) → HasPointIn s area
+as_naturals s area (pos a) (pos b) h k l w =
+    record {
+      a = a;
+      b = b;
+      part = omega (arith, signed, k);
+      whole = omega (arith, signed, l);
+      inside = w;
+    }
 as_naturals s area (pos a) (negsuc b) h k l w = absurd (omega (arith, signed, l))
 as_naturals s area (negsuc a) v h k l w = absurd (omega (arith, signed, h))
 

@@ -1,7 +1,8 @@
 -- The laws of the orders of points, edges and names: each by one part, and where that is equal by another.
 -- They are those of the order of numbers, taken on each part and joined.
 
-use Rattle.std.proofs.Common.{◌≡◌, refl, ap, sym, ◌∙◌, arith, inl, inr, Ordering, Less, Equal, Greater, int_cmp, nat_cmp}
+use Rattle.std.proofs.Common.{◌≡◌, refl, ap, sym, ◌∙◌, arith, inl, inr, Ordering, Less, Equal}
+use Rattle.std.proofs.Common.{Greater, int_cmp, nat_cmp}
 use Rattle.std.specs.Prelude.{◌<ℤ◌, ◌⊎◌}
 use Rattle.std.specs.Cmp.{IsTotalOrder}
 use Rattle.std.specs.Ordering.{ordering_then, ordering_reverse, MatchOrdering}
@@ -28,7 +29,8 @@ exact Greater oy a b hx hy e = cc
 -- points of equal order are one point
 pub point_exact : (a b : Point) → point_cmp a b ≡ Equal → a ≡ b
 point_exact a b e =
-    exact (int_cmp a.x b.x) (int_cmp a.y b.y) a b (int_ranked a.x b.x _ (λ i. int_cmp a.x b.x)) (int_ranked a.y b.y _ (λ i. int_cmp a.y b.y)) e
+    exact (int_cmp a.x b.x) (int_cmp a.y b.y) a b (int_ranked a.x b.x _ (λ i. int_cmp a.x b.x))
+    (int_ranked a.y b.y _ (λ i. int_cmp a.y b.y)) e
 
 -- a point has equal order with itself
 pub point_same : (a b : Point) → a ≡ b → point_cmp a b ≡ Equal
@@ -54,7 +56,8 @@ less Greater oy a b hx hy e = cc
 -- a point before another lies left of it, or below it on one vertical
 pub point_less : (a b : Point) → point_cmp a b ≡ Less → (a.x <ℤ b.x) ⊎ ((a.x ≡ b.x) × (a.y <ℤ b.y))
 point_less a b e =
-    less (int_cmp a.x b.x) (int_cmp a.y b.y) a b (int_ranked a.x b.x _ (λ i. int_cmp a.x b.x)) (int_ranked a.y b.y _ (λ i. int_cmp a.y b.y)) e
+    less (int_cmp a.x b.x) (int_cmp a.y b.y) a b (int_ranked a.x b.x _ (λ i. int_cmp a.x b.x))
+    (int_ranked a.y b.y _ (λ i. int_cmp a.y b.y)) e
 
 before : (ox oy : Ordering) (a b : Point) → MatchOrdering ox (a.x <ℤ b.x) (a.x ≡ b.x) (b.x <ℤ a.x)
     → MatchOrdering oy (a.y <ℤ b.y) (a.y ≡ b.y) (b.y <ℤ a.y)
@@ -68,7 +71,8 @@ before Greater oy a b hx hy h = absurd (omega (arith, ints, h))
 -- a point left of another, or below it on one vertical, is before it
 pub point_before : (a b : Point) → (a.x <ℤ b.x) ⊎ ((a.x ≡ b.x) × (a.y <ℤ b.y)) → point_cmp a b ≡ Less
 point_before a b h =
-    before (int_cmp a.x b.x) (int_cmp a.y b.y) a b (int_ranked a.x b.x _ (λ i. int_cmp a.x b.x)) (int_ranked a.y b.y _ (λ i. int_cmp a.y b.y)) h
+    before (int_cmp a.x b.x) (int_cmp a.y b.y) a b (int_ranked a.x b.x _ (λ i. int_cmp a.x b.x))
+    (int_ranked a.y b.y _ (λ i. int_cmp a.y b.y)) h
 
 -- ---- edges and names
 
@@ -89,10 +93,13 @@ edge_exact e f h =
 
 -- names are totally ordered
 pub label_total : IsTotalOrder label_cmp
-label_total = then_total (on_total (λ (n : Label). n.editor) nat_cmp_total) (on_total (λ (n : Label). n.serial) nat_cmp_total)
+label_total = then_total (on_total (λ (n : Label). n.editor) nat_cmp_total)
+    (on_total (λ (n : Label). n.serial) nat_cmp_total)
 
 -- names of equal order are one name
 pub label_exact : CmpEqualImpliesEq label_cmp
 label_exact m n h =
-    let parts = both_equal (nat_cmp m.editor n.editor) (nat_cmp m.serial n.serial) (exact_unsigned m.editor n.editor) (exact_unsigned m.serial n.serial) h in
+    let parts =
+    both_equal (nat_cmp m.editor n.editor) (nat_cmp m.serial n.serial)
+    (exact_unsigned m.editor n.editor) (exact_unsigned m.serial n.serial) h in
     λ i. record { editor = parts.0 i; serial = parts.1 i }

@@ -2,7 +2,8 @@
 -- An expression is turned into its normal form, a sorted sum of terms with no zero factor; both have one value,
 -- by induction on the expression. So two expressions with one normal form are equal at all values of their variables.
 
-use Rattle.std.proofs.Common.{◌≡◌, ℕ, zero, suc, Bool, true, false, cond, ◌&&◌, List, [], ◌∷◌, refl, sym, ap, ◌∙◌, arith, nat_eq, nat_le, nat_lt}
+use Rattle.std.proofs.Common.{◌≡◌, ℕ, zero, suc, Bool, true, false, cond, ◌&&◌, List, [], ◌∷◌, refl}
+use Rattle.std.proofs.Common.{sym, ap, ◌∙◌, arith, nat_eq, nat_le, nat_lt}
 use Rattle.std.specs.Prelude.{ℤ, pos, negsuc, neg_ℤ, ◌+ℤ◌, ◌-ℤ◌, ◌*ℤ◌}
 use Rattle.std.proofs.lemmas.Int.{ints}
 use Rattle.std.proofs.lemmas.Bool.Decides.{nat_tests}
@@ -134,20 +135,25 @@ turned x y z = sym (int_mul_assoc x y z) ∙ ap (λ w. w *ℤ z) (int_mul_comm x
 insert_branch : (b : Bool) (r : List ℤ) (v w : ℕ) (ws xs : List ℕ) → product_of r xs ≡ value_at r v *ℤ product_of r ws
     → product_of r (cond b (v ∷ w ∷ ws) (w ∷ xs)) ≡ value_at r v *ℤ (value_at r w *ℤ product_of r ws)
 insert_branch true r v w ws xs h = refl
-insert_branch false r v w ws xs h = ap (λ k. value_at r w *ℤ k) h ∙ turned (value_at r w) (value_at r v) (product_of r ws)
+insert_branch false r v w ws xs h =
+    ap (λ k. value_at r w *ℤ k) h ∙ turned (value_at r w) (value_at r v) (product_of r ws)
 
-product_of-insert_var : (r : List ℤ) (v : ℕ) (ws : List ℕ) → product_of r (insert_var v ws) ≡ value_at r v *ℤ product_of r ws
+product_of-insert_var : (r : List ℤ) (v : ℕ) (ws : List ℕ)
+    → product_of r (insert_var v ws) ≡ value_at r v *ℤ product_of r ws
 product_of-insert_var r v [] = refl
-product_of-insert_var r v (w ∷ ws) = insert_branch (nat_le v w) r v w ws (insert_var v ws) (product_of-insert_var r v ws)
+product_of-insert_var r v (w ∷ ws) =
+    insert_branch (nat_le v w) r v w ws (insert_var v ws) (product_of-insert_var r v ws)
 
-product_of-merge_vars : (r : List ℤ) (vs ws : List ℕ) → product_of r (merge_vars vs ws) ≡ product_of r vs *ℤ product_of r ws
+product_of-merge_vars : (r : List ℤ) (vs ws : List ℕ)
+    → product_of r (merge_vars vs ws) ≡ product_of r vs *ℤ product_of r ws
 product_of-merge_vars r [] ws = omega (arith, ints)
 product_of-merge_vars r (v ∷ vs) ws =
     product_of-insert_var r v (merge_vars vs ws)
     ∙ ap (λ k. value_at r v *ℤ k) (product_of-merge_vars r vs ws)
     ∙ sym (int_mul_assoc (value_at r v) (product_of r vs) (product_of r ws))
 
-same_head : (r : List ℤ) (v w : ℕ) (x y : ℤ) (b : Bool) → (nat_eq v w && b) ≡ true → (b ≡ true → x ≡ y) → value_at r v *ℤ x ≡ value_at r w *ℤ y
+same_head : (r : List ℤ) (v w : ℕ) (x y : ℤ) (b : Bool) → (nat_eq v w && b) ≡ true
+    → (b ≡ true → x ≡ y) → value_at r v *ℤ x ≡ value_at r w *ℤ y
 same_head r v w x y b e h =
     let p : v ≡ w = grind (arith, nat_tests) in
     let q : b ≡ true = grind (arith, nat_tests) in
@@ -160,7 +166,8 @@ product_of-same r (v ∷ vs) [] e = cc
 product_of-same r (v ∷ vs) (w ∷ ws) e =
     same_head r v w (product_of r vs) (product_of r ws) (vars_eq vs ws) e (product_of-same r vs ws)
 
-total-keep : (r : List ℤ) (c : ℤ) (vs : List ℕ) (ts : List Term) → total r (keep c vs ts) ≡ c *ℤ product_of r vs +ℤ total r ts
+total-keep : (r : List ℤ) (c : ℤ) (vs : List ℕ) (ts : List Term)
+    → total r (keep c vs ts) ≡ c *ℤ product_of r vs +ℤ total r ts
 total-keep r (pos zero) vs ts = omega (arith, ints)
 total-keep r (pos (suc n)) vs ts = refl
 total-keep r (negsuc n) vs ts = refl

@@ -37,7 +37,18 @@ pub int_mul_assoc : (a b c : ℤ) → (a *ℤ b) *ℤ c ≡ a *ℤ (b *ℤ c)
 int_mul_assoc a b c =
     let ab = product_is a b in
     let bc = product_is b c in
-    omega (arith, ints, times (up c) _ _ ab.0, times (down c) _ _ ab.0, times (up c) _ _ ab.1, times (down c) _ _ ab.1, times (up a) _ _ bc.0, times (down a) _ _ bc.0, times (up a) _ _ bc.1, times (down a) _ _ bc.1)
+    omega (
+      arith,
+      ints,
+      times (up c) _ _ ab.0,
+      times (down c) _ _ ab.0,
+      times (up c) _ _ ab.1,
+      times (down c) _ _ ab.1,
+      times (up a) _ _ bc.0,
+      times (down a) _ _ bc.0,
+      times (up a) _ _ bc.1,
+      times (down a) _ _ bc.1,
+    )
 
 -- a product by a sum
 pub int_mul-add : (a b c : ℤ) → a *ℤ (b +ℤ c) ≡ a *ℤ b +ℤ a *ℤ c
@@ -149,7 +160,10 @@ int_lt_or_le a b = grind (arith, ints)
 -- a positive factor leaves `<`
 pub int_lt_of_mul : (c a b : ℤ) → pos 0 <ℤ c → (c *ℤ a) <ℤ (c *ℤ b) → a <ℤ b
 int_lt_of_mul c a b h k =
-    ⊎_elim (λ l. l) (λ (l : b ≤ℤ a). absurd (omega (arith, ints, int_mul-le_left c b a (omega (arith, ints)) l))) (int_lt_or_le a b)
+    ⊎_elim (λ l. l)
+    (λ (l : b ≤ℤ a).
+    absurd (omega (arith, ints, int_mul-le_left c b a (omega (arith, ints)) l)))
+    (int_lt_or_le a b)
 
 -- a positive factor leaves `<=`
 pub int_le_of_mul : (c a b : ℤ) → pos 0 <ℤ c → (c *ℤ a) ≤ℤ (c *ℤ b) → a ≤ℤ b

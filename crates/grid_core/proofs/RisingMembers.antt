@@ -1,7 +1,8 @@
 -- A rising list has the members of the list that it is made of, in order, each once.
 -- The order is any total order in which only equal members are tied. By induction on the list: to insert a member keeps
 -- the order, and adds that member and no other.
-use Rattle.std.proofs.Common.{◌≡◌, refl, sym, ap, ◌∙◌, Bool, true, false, ◌||◌, ◌↔◌, List, [], ◌∷◌, fold, Contains, Ordering, Less, Equal, Greater, is_eq}
+use Rattle.std.proofs.Common.{◌≡◌, refl, sym, ap, ◌∙◌, Bool, true, false, ◌||◌, ◌↔◌, List, [], ◌∷◌}
+use Rattle.std.proofs.Common.{fold, Contains, Ordering, Less, Equal, Greater, is_eq}
 use Rattle.std.specs.BTreeSet.{insert_key}
 use Rattle.std.specs.Cmp.{IsTotalOrder}
 use Rattle.std.specs.List.{AllByRecursion, list_any}
@@ -34,16 +35,19 @@ module _ {K : Type 0} {R : K → K → Ordering} (o : IsTotalOrder R) where
   -- ---- order
 
   -- what holds of a member and of a list holds of the list with the member
-  pub all_inserted : (P : K → Type 0) (k : K) (ks : List K) → P k → AllByRecursion P ks → AllByRecursion P (insert_key R ks k)
+  pub all_inserted : (P : K → Type 0) (k : K) (ks : List K) → P k → AllByRecursion P ks
+      → AllByRecursion P (insert_key R ks k)
   all_inserted P k [] p h = (p, tt)
   all_inserted P k (x ∷ xs) p h = by (all_inserted P k xs p h.1) (R k x)
     where
-      by : AllByRecursion P (insert_key R xs k) → (r : Ordering) → AllByRecursion P (match_ordering r (k ∷ x ∷ xs) (x ∷ xs) (x ∷ insert_key R xs k))
+      by : AllByRecursion P (insert_key R xs k) → (r : Ordering)
+          → AllByRecursion P (match_ordering r (k ∷ x ∷ xs) (x ∷ xs) (x ∷ insert_key R xs k))
       by rest Less = (p, h)
       by rest Equal = h
       by rest Greater = (h.0, rest)
 
-  before_later : (k x : K) (ys : List K) → R k x ≡ Less → AllByRecursion (λ y. R x y ≡ Less) ys → AllByRecursion (λ y. R k y ≡ Less) ys
+  before_later : (k x : K) (ys : List K) → R k x ≡ Less → AllByRecursion (λ y. R x y ≡ Less) ys
+      → AllByRecursion (λ y. R k y ≡ Less) ys
   before_later k x [] e h = tt
   before_later k x (y ∷ ys) e h = (o.trans k x y e h.0, before_later k x ys e h.1)
 
@@ -52,7 +56,8 @@ module _ {K : Type 0} {R : K → K → Ordering} (o : IsTotalOrder R) where
   sorted_inserted k [] s = (tt, tt)
   sorted_inserted k (x ∷ xs) s = by (sorted_inserted k xs s.1) (R k x) refl
     where
-      by : IsStrictlySortedBy R (insert_key R xs k) → (r : Ordering) → R k x ≡ r → IsStrictlySortedBy R (match_ordering r (k ∷ x ∷ xs) (x ∷ xs) (x ∷ insert_key R xs k))
+      by : IsStrictlySortedBy R (insert_key R xs k) → (r : Ordering) → R k x ≡ r
+          → IsStrictlySortedBy R (match_ordering r (k ∷ x ∷ xs) (x ∷ xs) (x ∷ insert_key R xs k))
       by rest Less e = ((e, before_later k x xs e s.0), s)
       by rest Equal e = s
       by rest Greater e = (all_inserted (λ y. R x y ≡ Less) k xs (o.antisymm x k ∙ ap ordering_reverse e) s.0, rest)
@@ -68,20 +73,29 @@ module _ {K : Type 0} {R : K → K → Ordering} (o : IsTotalOrder R) where
 
   -- ---- members
 
-  any_inserted : (q k : K) (ks : List K) → list_any (eq_by_cmp R q) (insert_key R ks k) ≡ (eq_by_cmp R q k || list_any (eq_by_cmp R q) ks)
+  any_inserted : (q k : K) (ks : List K)
+      → list_any (eq_by_cmp R q) (insert_key R ks k)
+      ≡ (eq_by_cmp R q k || list_any (eq_by_cmp R q) ks)
   any_inserted q k [] = refl
   any_inserted q k (x ∷ xs) = by (any_inserted q k xs) (R k x) refl
     where
-      by : list_any (eq_by_cmp R q) (insert_key R xs k) ≡ (eq_by_cmp R q k || list_any (eq_by_cmp R q) xs) → (r : Ordering) → R k x ≡ r
-          → list_any (eq_by_cmp R q) (match_ordering r (k ∷ x ∷ xs) (x ∷ xs) (x ∷ insert_key R xs k)) ≡ (eq_by_cmp R q k || (eq_by_cmp R q x || list_any (eq_by_cmp R q) xs))
+      by : list_any (eq_by_cmp R q) (insert_key R xs k)
+          ≡ (eq_by_cmp R q k || list_any (eq_by_cmp R q) xs)
+          → (r : Ordering) → R k x ≡ r
+          → list_any (eq_by_cmp R q) (match_ordering r (k ∷ x ∷ xs) (x ∷ xs)
+          (x ∷ insert_key R xs k))
+          ≡ (eq_by_cmp R q k || (eq_by_cmp R q x || list_any (eq_by_cmp R q) xs))
       by rest Less e = refl
       by rest Equal e =
           or_twice (eq_by_cmp R q x) (list_any (eq_by_cmp R q) xs)
           ∙ ap (λ r. is_eq r || (eq_by_cmp R q x || list_any (eq_by_cmp R q) xs)) (sym (alike_right o k x q e))
       by rest Greater e =
-          ap (λ b. eq_by_cmp R q x || b) rest ∙ or_swap (eq_by_cmp R q x) (eq_by_cmp R q k) (list_any (eq_by_cmp R q) xs)
+          ap (λ b. eq_by_cmp R q x || b) rest ∙ or_swap (eq_by_cmp R q x) (eq_by_cmp R q k)
+          (list_any (eq_by_cmp R q) xs)
 
-  any_folded : (q : K) (done ks : List K) → list_any (eq_by_cmp R q) (fold (insert_key R) done ks) ≡ (list_any (eq_by_cmp R q) done || list_any (eq_by_cmp R q) ks)
+  any_folded : (q : K) (done ks : List K)
+      → list_any (eq_by_cmp R q) (fold (insert_key R) done ks)
+      ≡ (list_any (eq_by_cmp R q) done || list_any (eq_by_cmp R q) ks)
   any_folded q done [] = sym (or_false (list_any (eq_by_cmp R q) done))
   any_folded q done (k ∷ ks) =
       any_folded q (insert_key R done k) ks

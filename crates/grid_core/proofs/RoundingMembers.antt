@@ -1,5 +1,7 @@
 -- What the lists of a rounding have, each by the laws of rising lists over its order.
-use Rattle.std.proofs.Common.{◌≡◌, refl, sym, ◌∙◌, ◌+◌, ◌<◌, arith, eq-zero-or-pos, Bool, true, false, ◌||◌, true≢false, ◌↔◌, inl, inr, List, ◌++◌, filter, flat_map, count_by, Contains, Any, IsTrue}
+use Rattle.std.proofs.Common.{◌≡◌, refl, sym, ◌∙◌, ◌+◌, ◌<◌, arith, eq-zero-or-pos, Bool, true}
+use Rattle.std.proofs.Common.{false, ◌||◌, true≢false, ◌↔◌, inl, inr, List, ◌++◌, filter, flat_map}
+use Rattle.std.proofs.Common.{count_by, Contains, Any, IsTrue}
 use Rattle.std.specs.List.{list_any}
 use Rattle.std.proofs.lemmas.List.Folds.{list_any-append}
 use Rattle.grid_core.specs.declared.point.Point.{Point}
@@ -8,9 +10,11 @@ use Rattle.grid_core.specs.Segment.{Segment}
 use Rattle.grid_core.specs.Name.{Label, label_cmp}
 use Rattle.grid_core.specs.Edge.{EdgeEnds, edge_eq}
 use Rattle.grid_core.specs.Meets.{meets_pixel_of}
-use Rattle.grid_core.specs.Rounding.{end_points, crossing_pixels, ends_at, crossings_at, hot, route, route_edges, edges, bundle}
+use Rattle.grid_core.specs.Rounding.{end_points, crossing_pixels, ends_at, crossings_at, hot, route}
+use Rattle.grid_core.specs.Rounding.{route_edges, edges, bundle}
 use Rattle.grid_core.specs.Laws.{HotIsCounted, RouteIsMet, EdgesAreOfRoutes, BundleIsOfRoutes}
-use Rattle.grid_core.proofs.ListMembers.{counted_iff, contains_filter, any_filter, any_then, contains_map, sorted_filter, contains_flat_map}
+use Rattle.grid_core.proofs.ListMembers.{counted_iff, contains_filter, any_filter, any_then}
+use Rattle.grid_core.proofs.ListMembers.{contains_map, sorted_filter, contains_flat_map}
 use Rattle.grid_core.proofs.Order.{point_total, point_exact, edge_total, edge_exact}
 use Rattle.grid_core.proofs.RouteOrder.{along_total, contains_by_product}
 use Rattle.grid_core.proofs.RisingMembers.{sorted_rising, contains_rising, any_rising, any_iff}
@@ -18,8 +22,12 @@ use Rattle.grid_core.proofs.RisingMembers.{sorted_rising, contains_rising, any_r
 -- ---- hot pixels
 
 -- something of two lists is counted where one of the two counts is above 0
-counted_in_both : (p : Point → Bool) (xs ys : List Point) → (list_any p (xs ++ ys) ≡ true) ↔ (0 < count_by p xs + count_by p ys)
-counted_in_both p xs ys = (λ h. up (list_any p xs) refl (sym (list_any-append p xs ys) ∙ h), λ h. list_any-append p xs ys ∙ down (list_any p xs) refl h)
+counted_in_both : (p : Point → Bool) (xs ys : List Point)
+    → (list_any p (xs ++ ys) ≡ true) ↔ (0 < count_by p xs + count_by p ys)
+counted_in_both p xs ys = (
+  λ h. up (list_any p xs) refl (sym (list_any-append p xs ys) ∙ h),
+  λ h. list_any-append p xs ys ∙ down (list_any p xs) refl h,
+)
   where
     up : (b : Bool) → list_any p xs ≡ b → (b || list_any p ys) ≡ true → 0 < count_by p xs + count_by p ys
     up true e h = let first = (counted_iff p xs).0 e in omega (arith, first)
@@ -43,7 +51,9 @@ hot_is_counted ss =
       in_order = sorted_rising point_total (end_points ss ++ crossing_pixels ss);
     }
   where
-    in_both : (h : Point) → (list_any (point_eq h) (end_points ss ++ crossing_pixels ss) ≡ true) ↔ (0 < ends_at ss h + crossings_at ss h)
+    in_both : (h : Point)
+        → (list_any (point_eq h) (end_points ss ++ crossing_pixels ss) ≡ true)
+        ↔ (0 < ends_at ss h + crossings_at ss h)
     in_both h = counted_in_both (point_eq h) (end_points ss) (crossing_pixels ss)
 
     any_hot : (h : Point) → list_any (point_eq h) (hot ss) ≡ list_any (point_eq h) (end_points ss ++ crossing_pixels ss)
@@ -61,7 +71,9 @@ route_is_met ss s =
     same : (h : Point) → Contains (route ss s) h ↔ Contains (filter (meets_pixel_of s) (hot ss)) h
     same h = contains_by_product s (hot ss) h
 
-    kept : (h : Point) → Contains (filter (meets_pixel_of s) (hot ss)) h ↔ (Contains (hot ss) h × IsTrue (meets_pixel_of s h))
+    kept : (h : Point)
+        → Contains (filter (meets_pixel_of s) (hot ss)) h
+        ↔ (Contains (hot ss) h × IsTrue (meets_pixel_of s h))
     kept h = contains_filter (meets_pixel_of s) (hot ss) h
 
 pub edges_are_of_routes : (ss : List Segment) → EdgesAreOfRoutes ss

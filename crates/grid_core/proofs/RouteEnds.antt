@@ -1,7 +1,9 @@
--- The route of a segment of the list begins with p and ends with q: both are hot and met, the route rises by the product
--- with the direction, and every other pixel that is met has a greater product than p and a lesser one than q.
+-- The route of a segment of the list begins with p and ends with q: both are hot and met, the route
+-- rises by the product with the direction, and every other pixel that is met has a greater product
+-- than p and a lesser one than q.
 
-use Rattle.std.proofs.Common.{◌≡◌, sym, ap, subst, ◌∙◌, suc, ◌-◌, arith, ◌⊎◌, inl, inr, ⊎_elim, List, [], ◌∷◌, ◌++◌, length, Contains, Some, Ordering, Less}
+use Rattle.std.proofs.Common.{◌≡◌, sym, ap, subst, ◌∙◌, suc, ◌-◌, arith, ◌⊎◌, inl, inr, ⊎_elim}
+use Rattle.std.proofs.Common.{List, [], ◌∷◌, ◌++◌, length, Contains, Some, Ordering, Less}
 use Rattle.std.specs.Prelude.{◌<ℤ◌}
 use Rattle.std.specs.Cmp.{IsTotalOrder, int_cmp_is}
 use Rattle.std.specs.List.{AllByRecursion, slice_get}
@@ -40,7 +42,8 @@ module _ {K : Type 0} {R : K → K → Ordering} (o : IsTotalOrder R) where
   not_itself x y e h = not_both x y h (subst (λ z. R z x ≡ Less) e (subst (λ z. R x z ≡ Less) (sym e) h))
 
   -- a member that has no other before it is the first
-  pub first_is : (p : K) (xs : List K) → IsStrictlySortedBy R xs → Contains xs p → ((x : K) → Contains xs x → (p ≡ x) ⊎ (R p x ≡ Less))
+  pub first_is : (p : K) (xs : List K) → IsStrictlySortedBy R xs → Contains xs p
+      → ((x : K) → Contains xs x → (p ≡ x) ⊎ (R p x ≡ Less))
       → slice_get xs 0 ≡ Some p
   unfolding IsStrictlySortedBy
   first_is p [] s c least = absurd (omega (arith, c.1))
@@ -52,7 +55,8 @@ module _ {K : Type 0} {R : K → K → Ordering} (o : IsTotalOrder R) where
       by (inr d) (inr less) = absurd (not_both x p (all_at (λ y. R x y ≡ Less) xs p s.0 d) less)
 
   -- a member that has no other after it is the last
-  pub last_is : (q : K) (xs : List K) → IsStrictlySortedBy R xs → Contains xs q → ((x : K) → Contains xs x → (x ≡ q) ⊎ (R x q ≡ Less))
+  pub last_is : (q : K) (xs : List K) → IsStrictlySortedBy R xs → Contains xs q
+      → ((x : K) → Contains xs x → (x ≡ q) ⊎ (R x q ≡ Less))
       → slice_get xs (length xs - 1) ≡ Some q
   unfolding IsStrictlySortedBy
   last_is q [] s c greatest = absurd (omega (arith, c.1))
@@ -63,7 +67,10 @@ module _ {K : Type 0} {R : K → K → Ordering} (o : IsTotalOrder R) where
       by (inr d) = absurd (omega (arith, d.1))
   last_is q (x ∷ y ∷ ys) s c greatest =
       ap (λ k. slice_get (x ∷ y ∷ ys) k) later
-      ∙ last_is q (y ∷ ys) s.1 (by (contains_cases x (y ∷ ys) q c) (greatest y (contains_later x (y ∷ ys) y (contains_first y ys)))) (λ z k. greatest z (contains_later x (y ∷ ys) z k))
+      ∙ last_is q (y ∷ ys) s.1
+      (by (contains_cases x (y ∷ ys) q c)
+      (greatest y (contains_later x (y ∷ ys) y (contains_first y ys))))
+      (λ z k. greatest z (contains_later x (y ∷ ys) z k))
     where
       later : length (x ∷ y ∷ ys) - 1 ≡ suc (length (y ∷ ys) - 1)
       later = omega arith
@@ -76,7 +83,8 @@ module _ {K : Type 0} {R : K → K → Ordering} (o : IsTotalOrder R) where
 -- ---- the ends of a route
 
 -- an end of a segment of the list is hot
-ends_are_hot : (ss : List Segment) (s : Segment) (h : Point) → Contains ss s → Contains (s.p ∷ s.q ∷ []) h → Contains (hot ss) h
+ends_are_hot : (ss : List Segment) (s : Segment) (h : Point) → Contains ss s
+    → Contains (s.p ∷ s.q ∷ []) h → Contains (hot ss) h
 ends_are_hot ss s h c d =
     (contains_rising point_total point_exact (end_points ss ++ crossing_pixels ss) h).1
     (Contains-append_left (end_points ss) (crossing_pixels ss) h
@@ -92,14 +100,19 @@ route_runs_from_p_to_q ss s c =
       first = first_is (along_total s) s.p (route ss s) members.in_order
           ((members.met s.p).1 (ends_are_hot ss s s.p c (contains_first s.p (s.q ∷ [])), meets_p s)) from_p;
       last = last_is (along_total s) s.q (route ss s) members.in_order
-          ((members.met s.q).1 (ends_are_hot ss s s.q c (contains_later s.p (s.q ∷ []) s.q (contains_first s.q [])), meets_q s)) to_q;
+          ((members.met s.q).1 (
+            ends_are_hot ss s s.q c (contains_later s.p (s.q ∷ []) s.q (contains_first s.q [])),
+            meets_q s,
+          )) to_q;
     }
   where
     members : RouteIsMet ss s
     members = route_is_met ss s
 
     from_p : (h : Point) → Contains (route ss s) h → (s.p ≡ h) ⊎ (along_cmp s s.p h ≡ Less)
-    from_p h k = ⊎_elim (λ (e : s.p ≡ h). inl e) (λ l. inr (less_along s s.p h l)) (beyond_p s h ((members.met h).0 k).1)
+    from_p h k = ⊎_elim (λ (e : s.p ≡ h). inl e) (λ l. inr (less_along s s.p h l))
+        (beyond_p s h ((members.met h).0 k).1)
 
     to_q : (h : Point) → Contains (route ss s) h → (h ≡ s.q) ⊎ (along_cmp s h s.q ≡ Less)
-    to_q h k = ⊎_elim (λ (e : h ≡ s.q). inl e) (λ l. inr (less_along s h s.q l)) (short_of_q s h ((members.met h).0 k).1)
+    to_q h k = ⊎_elim (λ (e : h ≡ s.q). inl e) (λ l. inr (less_along s h s.q l))
+        (short_of_q s h ((members.met h).0 k).1)

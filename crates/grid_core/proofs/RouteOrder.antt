@@ -1,7 +1,8 @@
--- Routes, whose pixels have different products: to order them by the product alone or by the product and the pixel gives
--- one list, which has the members of the list that it is made of.
+-- Routes, whose pixels have different products: to order them by the product alone or by the
+-- product and the pixel gives one list, which has the members of the list that it is made of.
 
-use Rattle.std.proofs.Common.{◌≡◌, refl, ap, subst, ◌∙◌, Bool, true, false, cond, ◌↔◌, List, [], ◌∷◌, filter, fold, Contains, IsTrue, Ordering, Less, Equal, Greater}
+use Rattle.std.proofs.Common.{◌≡◌, refl, ap, subst, ◌∙◌, Bool, true, false, cond, ◌↔◌, List, []}
+use Rattle.std.proofs.Common.{◌∷◌, filter, fold, Contains, IsTrue, Ordering, Less, Equal, Greater}
 use Rattle.std.specs.BTreeSet.{insert_key}
 use Rattle.std.specs.Cmp.{IsTotalOrder}
 use Rattle.std.specs.List.{AllByRecursion}
@@ -20,14 +21,16 @@ use Rattle.grid_core.proofs.Order.{point_total, point_exact, point_same}
 
 -- ---- one list by two orders
 
-module _ {K : Type 0} (Φ : K → Type 0) (R S : K → K → Ordering) (o : IsTotalOrder S) (agree : (x y : K) → Φ x → Φ y → R x y ≡ S x y) where
+module _ {K : Type 0} (Φ : K → Type 0) (R S : K → K → Ordering) (o : IsTotalOrder S)
+    (agree : (x y : K) → Φ x → Φ y → R x y ≡ S x y) where
   inserted_alike : (k : K) (ks : List K) → Φ k → AllByRecursion Φ ks → insert_key R ks k ≡ insert_key S ks k
   inserted_alike k [] p h = refl
   inserted_alike k (x ∷ xs) p h =
       ap (λ r. match_ordering r (k ∷ x ∷ xs) (x ∷ xs) (x ∷ insert_key R xs k)) (agree k x p h.0)
       ∙ ap (λ ys. match_ordering (S k x) (k ∷ x ∷ xs) (x ∷ xs) (x ∷ ys)) (inserted_alike k xs p h.1)
 
-  folded_alike : (done ks : List K) → AllByRecursion Φ done → AllByRecursion Φ ks → fold (insert_key R) done ks ≡ fold (insert_key S) done ks
+  folded_alike : (done ks : List K) → AllByRecursion Φ done → AllByRecursion Φ ks
+      → fold (insert_key R) done ks ≡ fold (insert_key S) done ks
   folded_alike done [] d h = refl
   folded_alike done (k ∷ ks) d h =
       ap (λ ys. fold (insert_key R) ys ks) (inserted_alike k done h.0 d)
@@ -42,7 +45,8 @@ all_passed : {K : Type 0} (p : K → Bool) (ks : List K) → AllByRecursion (λ 
 all_passed p [] = tt
 all_passed p (k ∷ ks) = by (p k) refl (all_passed p ks)
   where
-    by : (b : Bool) → p k ≡ b → AllByRecursion (λ x. IsTrue (p x)) (filter p ks) → AllByRecursion (λ x. IsTrue (p x)) (cond b (k ∷ filter p ks) (filter p ks))
+    by : (b : Bool) → p k ≡ b → AllByRecursion (λ x. IsTrue (p x)) (filter p ks)
+        → AllByRecursion (λ x. IsTrue (p x)) (cond b (k ∷ filter p ks) (filter p ks))
     by true e rest = (e, rest)
     by false e rest = rest
 
@@ -62,16 +66,19 @@ first_decides Equal l f = f refl
 first_decides Greater l f = refl
 
 -- the two orders agree on pixels that s meets
-orders_agree : (s : Segment) (g h : Point) → IsTrue (meets_pixel_of s g) → IsTrue (meets_pixel_of s h) → along_and_pixel_cmp s g h ≡ along_cmp s g h
+orders_agree : (s : Segment) (g h : Point) → IsTrue (meets_pixel_of s g)
+    → IsTrue (meets_pixel_of s h) → along_and_pixel_cmp s g h ≡ along_cmp s g h
 orders_agree s g h m n =
     first_decides (along_cmp s g h) (point_cmp g h)
     (λ e. point_same g h (one_product s g h m n (exact_signed (dot_of g (direction s)) (dot_of h (direction s)) e)))
 
 -- the pixels of a list that s meets are one list in either order
 pub rising_by_product : (s : Segment) (hs : List Point)
-    → rising (along_and_pixel_cmp s) (filter (meets_pixel_of s) hs) ≡ rising (along_cmp s) (filter (meets_pixel_of s) hs)
+    → rising (along_and_pixel_cmp s) (filter (meets_pixel_of s) hs)
+    ≡ rising (along_cmp s) (filter (meets_pixel_of s) hs)
 rising_by_product s hs =
-    rising_alike (λ h. IsTrue (meets_pixel_of s h)) (along_and_pixel_cmp s) (along_cmp s) (along_total s) (orders_agree s)
+    rising_alike (λ h. IsTrue (meets_pixel_of s h)) (along_and_pixel_cmp s) (along_cmp s)
+    (along_total s) (orders_agree s)
     (filter (meets_pixel_of s) hs) (all_passed (meets_pixel_of s) hs)
 
 -- ---- members

@@ -21,12 +21,14 @@ direction_within n s h = minus_within n n s.q s.p h.q_within h.p_within
 -- a cross product of directions within m and n
 pub cross_within : (m n : ℕ) (d e : Point) → IsWithin m d → IsWithin n e → unsigned_abs (cross_of d e) ≤ m * n + m * n
 cross_within m n d e h k =
-    difference_within (d.x *ℤ e.y) (d.y *ℤ e.x) (m * n) (m * n) (product_within d.x e.y m n h.x k.y) (product_within d.y e.x m n h.y k.x)
+    difference_within (d.x *ℤ e.y) (d.y *ℤ e.x) (m * n) (m * n) (product_within d.x e.y m n h.x k.y)
+    (product_within d.y e.x m n h.y k.x)
 
 -- a dot product of directions within m and n
 pub dot_within : (m n : ℕ) (d e : Point) → IsWithin m d → IsWithin n e → unsigned_abs (dot_of d e) ≤ m * n + m * n
 dot_within m n d e h k =
-    sum_within (d.x *ℤ e.x) (d.y *ℤ e.y) (m * n) (m * n) (product_within d.x e.x m n h.x k.x) (product_within d.y e.y m n h.y k.y)
+    sum_within (d.x *ℤ e.x) (d.y *ℤ e.y) (m * n) (m * n) (product_within d.x e.x m n h.x k.x)
+    (product_within d.y e.y m n h.y k.y)
 
 sizes_add : (u den : ℤ) → pos 0 ≤ℤ u → u ≤ℤ den → unsigned_abs (den -ℤ u) + unsigned_abs u ≡ unsigned_abs den
 sizes_add u den low high = omega (arith, signed, one_part u, one_part den, one_part (den -ℤ u))

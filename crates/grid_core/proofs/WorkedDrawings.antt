@@ -341,7 +341,8 @@ rounding-star :
           routed (segment 1 (point (neg 3) (pos 0)) (at 3 0)) (point (neg 3) (pos 0) ∷ at 0 0 ∷ at 3 0 ∷ [])
           ∷ routed (segment 2 (point (pos 0) (neg 3)) (at 0 3)) (point (pos 0) (neg 3) ∷ at 0 0 ∷ at 0 3 ∷ [])
           ∷ routed (segment 3 (point (neg 3) (neg 3)) (at 3 3)) (point (neg 3) (neg 3) ∷ at 0 0 ∷ at 3 3 ∷ [])
-          ∷ routed (segment 4 (point (neg 3) (pos 3)) (point (pos 3) (neg 3))) (point (neg 3) (pos 3) ∷ at 0 0 ∷ point (pos 3) (neg 3) ∷ [])
+          ∷ routed (segment 4 (point (neg 3) (pos 3)) (point (pos 3) (neg 3)))
+          (point (neg 3) (pos 3) ∷ at 0 0 ∷ point (pos 3) (neg 3) ∷ [])
           ∷ [];
       vertices =
           vertex (point (neg 3) (neg 3)) 1 0

@@ -13,8 +13,12 @@ use Rattle.grid_core.specs.Segment.{Segment}
 use Rattle.grid_core.specs.Meets.{meets_of}
 use Rattle.grid_core.proofs.Signed.{lt_true, lt_false}
 use Rattle.grid_core.proofs.Order.{point_less}
-use Rattle.pixel_test.proofs.ConstraintPairs.{upper_alone, lower_alone, upper_at_start, lower_at_start, lower_at_end, upper_at_end, room_rising, room_falling, upper_left, lower_right, upper_right, lower_left}
-use Rattle.pixel_test.specs.Corners.{overlaps_of, straddles_of, is_left_of, is_right_of, upper_left_of, upper_right_of, lower_left_of, lower_right_of}
+use Rattle.pixel_test.proofs.ConstraintPairs.{upper_alone, lower_alone, upper_at_start}
+use Rattle.pixel_test.proofs.ConstraintPairs.{lower_at_start, lower_at_end, upper_at_end}
+use Rattle.pixel_test.proofs.ConstraintPairs.{room_rising, room_falling, upper_left, lower_right}
+use Rattle.pixel_test.proofs.ConstraintPairs.{upper_right, lower_left}
+use Rattle.pixel_test.specs.Corners.{overlaps_of, straddles_of, is_left_of, is_right_of}
+use Rattle.pixel_test.specs.Corners.{upper_left_of, upper_right_of, lower_left_of, lower_right_of}
 
 -- the signs of a coordinate of the direction, as the constraints ask for them
 record Signs (p q : ℤ) (up down : Bool) : Type 0 where

@@ -2,7 +2,8 @@
 -- A crossing point is a point of both, by one equation in each coordinate, so that neither lies
 -- beyond the other.
 
-use Rattle.std.proofs.Common.{◌≡◌, sym, ◌∙◌, arith, refl, [], ◌∷◌, Bool, true, false, Some, None, Less, ⊎_elim, true≢false}
+use Rattle.std.proofs.Common.{◌≡◌, sym, ◌∙◌, arith, refl, [], ◌∷◌, Bool, true, false, Some, None}
+use Rattle.std.proofs.Common.{Less, ⊎_elim, true≢false}
 use Rattle.std.specs.Int.Signed.{≤ℤ_refl}
 use Rattle.std.specs.Prelude.{ℤ, pos, ◌+ℤ◌, ◌-ℤ◌, ◌*ℤ◌, ◌<ℤ◌, ◌≤ℤ◌, int_lt, ◌&&◌, if◌then◌else◌}
 use Rattle.std.specs.Int.{int_min, int_max}

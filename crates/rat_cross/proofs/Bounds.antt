@@ -10,7 +10,8 @@ use Rattle.std.proofs.lemmas.Nat.{div_below}
 use borrow.Author.Differences.{up, down}
 use Rattle.grid_core.specs.Vector.{IsWithin, cross_of, minus}
 use Rattle.grid_core.specs.Segment.{Segment, IsSegment, direction}
-use Rattle.grid_core.specs.Crossing.{RationalPoint, crossing_of, is_part, point_along, within_both, pixel_coordinate, pixel_of}
+use Rattle.grid_core.specs.Crossing.{RationalPoint, crossing_of, is_part, point_along, within_both}
+use Rattle.grid_core.specs.Crossing.{pixel_coordinate, pixel_of}
 use Rattle.grid_core.proofs.Signed.{signed, one_part, from_lt_true}
 use Rattle.grid_core.proofs.Sizes.{between_within, direction_within, cross_within}
 use Rattle.rat_cross.specs.CrossPoint.{IsCrossPoint}

@@ -1,4 +1,5 @@
-use Rattle.std.proofs.Common.{rules, ◌≡◌, pos, ◌^◌, ◌≤◌, ◌+ℤ◌, ◌*ℤ◌, unsigned_abs, w64, SFits, to_z-of_z, arith, ap, sym, ◌∙◌, subst}
+use Rattle.std.proofs.Common.{rules, ◌≡◌, pos, ◌^◌, ◌≤◌, ◌+ℤ◌, ◌*ℤ◌, unsigned_abs, w64, SFits}
+use Rattle.std.proofs.Common.{to_z-of_z, arith, ap, sym, ◌∙◌, subst}
 use Rattle.std.specs.Int.{int_div_euclid}
 use mir.Syntax.{w128}
 use Rattle.grid_core.specs.Crossing.{pixel_coordinate}

@@ -1,4 +1,5 @@
-use Rattle.std.proofs.Common.{rules, ◌≡◌, ◌*◌, ◌+ℤ◌, ◌-ℤ◌, ◌*ℤ◌, ◌≤◌, ◌^◌, unsigned_abs, w64, SFits, to_z-of_z, ap, ap₂, sym, ◌∙◌, subst}
+use Rattle.std.proofs.Common.{rules, ◌≡◌, ◌*◌, ◌+ℤ◌, ◌-ℤ◌, ◌*ℤ◌, ◌≤◌, ◌^◌, unsigned_abs, w64, SFits}
+use Rattle.std.proofs.Common.{to_z-of_z, ap, ap₂, sym, ◌∙◌, subst}
 use mir.Syntax.{w128}
 use Rattle.grid_core.proofs.Ring.{int_mul_comm}
 use Rattle.grid_core.proofs.Sizes.{between_within}

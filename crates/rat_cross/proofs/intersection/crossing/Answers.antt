@@ -84,7 +84,8 @@ returns-then-den-lt0-clause-value c =
     let negative : c.directions_cross-den.result <ℤ pos 0 = omega (arith, ints, c.if-den-lt0.true) in
     let positive =
     turned_positive c.direction_between-d.result c.direction_between-e.result c.directions_cross-den.result
-    c.directions_cross-size.result c.directions_cross-den.ensures.value c.directions_cross-size.ensures.value negative in
+    c.directions_cross-size.result c.directions_cross-den.ensures.value
+    c.directions_cross-size.ensures.value negative in
     let h = simp to_z-of_z at c.common_point-then-den-lt0.ensures in
     h ∙ crossing_right s t c.direction_between-d.result c.direction_between-e.result
     c.direction_between-then-den-lt0.result c.directions_cross-size.result
