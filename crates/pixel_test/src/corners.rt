@@ -4,8 +4,9 @@ ghost use Rattle.std.specs.Prelude.{◌≡◌, ℤ, pos, ◌≤◌, ◌^◌, ◌
 ghost use Rattle.grid_core.specs.Vector.{IsWithin};
 ghost use Rattle.grid_core.specs.Segment.{IsSegment};
 ghost use Rattle.grid_core.specs.Meets.{IsBox, meets_of, meets_pixel_of};
-ghost use Rattle.pixel_test.specs.Corners.{shares_columns_of, shares_rows_of, overlaps_of, twice_of};
-ghost use Rattle.pixel_test.specs.Corners.{upper_left_of, upper_right_of, lower_left_of, lower_right_of};
+ghost use Rattle.pixel_test.specs.Corners.{shares_columns_of, shares_rows_of, overlaps_of};
+ghost use Rattle.pixel_test.specs.Corners.{twice_of, upper_left_of, upper_right_of};
+ghost use Rattle.pixel_test.specs.Corners.{lower_left_of, lower_right_of};
 ghost use Rattle.pixel_test.specs.Corners.{corner_side_of, is_left_of, is_right_of, rises_of};
 ghost use Rattle.pixel_test.specs.Corners.{straddles_rising_of, straddles_falling_of, straddles_of};
 
@@ -97,8 +98,8 @@ fn straddles_rising(s: &Ur, area: &PixelBox) -> bool
     is_left(s, upper_left(area)) && is_right(s, lower_right(area))
 }
 
-/// Whether a falling line passes between the upper right corner and the lower left one, which is in the
-/// box.
+/// Whether a falling line passes between the upper right corner and the lower left one, which is in
+/// the box.
 #[inline(always)]
 fn straddles_falling(s: &Ur, area: &PixelBox) -> bool
     requires { IsBox (2 ^ 31) area.now }
@@ -125,8 +126,8 @@ fn is_right(s: &Ur, corner: Point) -> bool
     corner_side(s, corner) < 0
 }
 
-/// Twice the cross product of the segment's direction and the way from `p` to a corner, given by twice
-/// its coordinates. Below 2^67 in size.
+/// Twice the cross product of the segment's direction and the way from `p` to a corner, given by
+/// twice its coordinates. Below 2^67 in size.
 #[inline(always)]
 fn corner_side(s: &Ur, corner: Point) -> i128
     requires { IsWithin (2 ^ 33) corner }

@@ -1,10 +1,12 @@
 //! The crossing of two segments.
 
-ghost use Rattle.std.specs.Prelude.{◌≡◌, ℕ, ℤ, pos, ◌≤◌, ◌*◌, ◌^◌, ◌<ℤ◌, ◌≤ℤ◌, ◌+ℤ◌, ◌-ℤ◌, ◌*ℤ◌, unsigned_abs, IfSome};
+ghost use Rattle.std.specs.Prelude.{◌≡◌, ℕ, ℤ, pos, ◌≤◌, ◌*◌, ◌^◌, ◌<ℤ◌, ◌≤ℤ◌, ◌+ℤ◌, ◌-ℤ◌, ◌*ℤ◌};
+ghost use Rattle.std.specs.Prelude.{unsigned_abs, IfSome};
 ghost use Rattle.grid_core.specs.Vector.{IsWithin, cross_of, minus};
 ghost use Rattle.grid_core.specs.Segment.{IsSegment, direction};
 ghost use Rattle.grid_core.specs.Crossing.{crossing_of, is_part, point_along, within_both};
-ghost use Rattle.rat_cross.specs.Apart.{apart_of, columns_apart_of, rows_apart_of, separate_of, unordered_separate_of};
+ghost use Rattle.rat_cross.specs.Apart.{apart_of, columns_apart_of, rows_apart_of, separate_of};
+ghost use Rattle.rat_cross.specs.Apart.{unordered_separate_of};
 ghost use Rattle.rat_cross.specs.CrossPoint.{IsCrossPoint};
 
 use crate::Cross;
