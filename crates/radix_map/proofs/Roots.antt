@@ -39,15 +39,13 @@ within_all es [] h = refl
 within_all es (e ∷ edits) h =
     ap (λ k. edited_within 4294967296 (edited es k (option_map arc_value e.1)) edits) (mod-eq_of_lt h.0) ∙ within_all (edited es e.0 (option_map arc_value e.1)) edits h.1
 
--- ---- what is found at a key, where edits are noted over the root
+-- ---- what is found at a key, where edits are noted over entries
 
-pub found_set : {V Z : Type 0} (x : Node (Node (Node (Node (Node (Node (Node (Leaf V)))))))) (k : ℕ) (ps : List (ℕ × Option (Arc V Z))) (e : Option (Arc V Z)) (r : Option V) → Rises 0 4294967296 ps → Some e ≡ value_at k ps → r ≡ option_map arc_value e → r ≡ value_at k (edited_all (root_entries x) ps)
-found_set x k ps e r h s q =
-    q ∙ ap (λ o. edit_or o (value_at k (root_entries x))) s ∙ sym (value_noted k 0 4294967296 (root_entries x) ps (root_rises x) h)
+pub found_set : {V Z : Type 0} (es : List (ℕ × V)) (k : ℕ) (ps : List (ℕ × Option (Arc V Z))) (e : Option (Arc V Z)) (r : Option V) → Rises 0 4294967296 es → Rises 0 4294967296 ps → Some e ≡ value_at k ps → r ≡ option_map arc_value e → r ≡ value_at k (edited_all es ps)
+found_set es k ps e r g h s q = q ∙ ap (λ o. edit_or o (value_at k es)) s ∙ sym (value_noted k 0 4294967296 es ps g h)
 
-pub found_below : {V Z : Type 0} (x : Node (Node (Node (Node (Node (Node (Node (Leaf V)))))))) (k : ℕ) (ps : List (ℕ × Option (Arc V Z))) (r : Option V) → Rises 0 4294967296 ps → None ≡ value_at k ps → r ≡ value_at k (root_entries x) → r ≡ value_at k (edited_all (root_entries x) ps)
-found_below x k ps r h s q =
-    q ∙ ap (λ o. edit_or o (value_at k (root_entries x))) s ∙ sym (value_noted k 0 4294967296 (root_entries x) ps (root_rises x) h)
+pub found_below : {V Z : Type 0} (es : List (ℕ × V)) (k : ℕ) (ps : List (ℕ × Option (Arc V Z))) (r : Option V) → Rises 0 4294967296 es → Rises 0 4294967296 ps → None ≡ value_at k ps → r ≡ value_at k es → r ≡ value_at k (edited_all es ps)
+found_below es k ps r g h s q = q ∙ ap (λ o. edit_or o (value_at k es)) s ∙ sym (value_noted k 0 4294967296 es ps g h)
 
 -- ---- a root after edits
 

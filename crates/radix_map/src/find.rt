@@ -1,11 +1,11 @@
-//! Look-ups of many keys, which keep the path to the last one.
+//! Look-ups of many keys, which keep the path to the last one and the leaf at its end.
 
-ghost use Rattle.std.specs.Prelude.{◌≡◌, ℕ, ◌+◌, ◌%◌, ◌≤◌, List, option_copied, map, Option};
+ghost use Rattle.std.specs.Prelude.{◌≡◌, ℕ, ◌+◌, ◌/◌, ◌%◌, ◌≤◌, List, option_copied, map, Option};
 ghost use Rattle.std.specs.Iterator.{YieldsFirstBy, item_count};
-ghost use Rattle.radix_map.specs.Entries.{value_at, edited_all, leaf_map, node_map, block, Rises};
-ghost use Rattle.radix_map.specs.Inner.{IsFingerOf};
-ghost use Rattle.radix_map.specs.Map.{root_entries};
-ghost use Rattle.radix_map.specs.Fingers.{root_found, root_sound};
+ghost use Rattle.radix_map.specs.Entries.{value_at, edited_all, node_map, block, part, Rises};
+ghost use Rattle.radix_map.specs.Inner.{IsFingerOf, IsLeafOf};
+ghost use Rattle.radix_map.specs.Map.{leaf_entries, root_entries};
+ghost use Rattle.radix_map.specs.Fingers.{root_found, root_sound, IsKeptOf};
 
 use crate::level::{
     Edit, Leaf, Level, Node, Node1, Node2, Node3, Node4, Node5, Node6, ROOT_SHIFT, Root, place,
@@ -13,9 +13,7 @@ use crate::level::{
 use crate::pending::{edit_at, set_value};
 use std::marker::Model;
 
-type Finger1<'a, V> = NodeFinger<'a, Leaf<V>, LeafFinger<'a, V>>;
-
-type Finger2<'a, V> = NodeFinger<'a, Node1<V>, Finger1<'a, V>>;
+type Finger2<'a, V> = NodeFinger<'a, Node1<V>, &'a Node1<V>>;
 
 type Finger3<'a, V> = NodeFinger<'a, Node2<V>, Finger2<'a, V>>;
 
@@ -31,7 +29,7 @@ type RootFinger<'a, V> = NodeFinger<'a, Node6<V>, Finger6<'a, V>>;
 /// has no value. It is cheapest where the keys rise.
 #[derive(Drop)]
 pub struct FindAll<'a, V> {
-    finger: RootFinger<'a, V>,
+    tree: TreeFinger<'a, V>,
     pending: &'a [Edit<V>],
     keys: &'a [u32],
 }
@@ -39,14 +37,12 @@ pub struct FindAll<'a, V> {
 impl<'a, V> Model for FindAll<'a, V> {
     ghost use Rattle.std.specs.Prelude.{List, Option, map};
     ghost use Rattle.radix_map.specs.Entries.{value_at, edited_all, Rises};
-    ghost use Rattle.radix_map.specs.Fingers.{root_found, root_sound};
 
     ghost Value = { List (Option V) };
 
-    ghost view = { λ a. map
-        (λ k. value_at k (edited_all (root_found a.finger) a.pending.now)) a.keys.now };
+    ghost view = { λ a. map (λ k. value_at k (edited_all a.tree a.pending.now)) a.keys.now };
 
-    ghost invariant = { λ a. root_sound a.finger × Rises 0 4294967296 a.pending.now };
+    ghost invariant = { λ a. Rises 0 4294967296 a.tree × Rises 0 4294967296 a.pending.now };
 }
 
 impl<'a, V: Drop> FindAll<'a, V> {
@@ -56,7 +52,7 @@ impl<'a, V: Drop> FindAll<'a, V> {
             (λ k. value_at k (edited_all (root_entries root.now) pending.now)) keys.now }
     {
         FindAll {
-            finger: Finger::begin(root),
+            tree: TreeFinger::of(root),
             pending,
             keys,
         }
@@ -74,10 +70,107 @@ impl<'a, V: Drop> Iterator for FindAll<'a, V> {
         match self.keys.split_first() {
             Some((key, later)) => {
                 self.keys = later;
-                Some(find(&mut self.finger, self.pending, *key))
+                Some(find(&mut self.tree, self.pending, *key))
             }
             None => None,
         }
+    }
+}
+
+// The value at the key, where the edits count before what the tree has.
+#[inline(always)]
+fn find<'a, V: Drop>(
+    tree: &mut TreeFinger<'a, V>,
+    pending: &'a [Edit<V>],
+    key: u32,
+) -> Option<&'a V>
+    requires tree { Rises 0 4294967296 tree.old }
+    requires edits { Rises 0 4294967296 pending.now }
+    ensures value { option_copied result ≡ value_at key (edited_all tree.old pending.now) }
+    ensures same { tree.new ≡ tree.old }
+{
+    match edit_at(pending, key) {
+        Some(value) => set_value(value),
+        None => tree.find(key),
+    }
+}
+
+/// A tree, the path to the key that was looked up last, and the leaf of that key's block: it is
+/// kept since most keys of a list lie in the block of the key before.
+#[derive(Drop)]
+struct TreeFinger<'a, V> {
+    path: RootFinger<'a, V>,
+    kept: Option<BlockLeaf<'a, V>>,
+}
+
+/// The leaf of a block of sixteen keys, if there is one.
+#[derive(Drop)]
+pub(crate) struct BlockLeaf<'a, V> {
+    /// The keys without their lowest four bits.
+    block: u32,
+    leaf: Option<&'a Leaf<V>>,
+}
+
+impl<'a, V> Model for TreeFinger<'a, V> {
+    ghost use Rattle.std.specs.Prelude.{ℕ, List};
+    ghost use Rattle.radix_map.specs.Fingers.{root_found, root_sound, IsKeptOf};
+
+    ghost Value = { List (ℕ × V) };
+
+    ghost view = { λ t. root_found t.path };
+
+    ghost invariant = { λ t. root_sound t.path × IsKeptOf (root_found t.path) t.kept };
+}
+
+impl<'a, V: Drop> TreeFinger<'a, V> {
+    fn of(root: &'a Root<V>) -> TreeFinger<'a, V>
+        ensures { result ≡ root_entries root.now }
+    {
+        TreeFinger {
+            path: Finger::begin(root),
+            kept: None,
+        }
+    }
+
+    // The value at the key.
+    #[inline(always)]
+    fn find(&mut self, key: u32) -> Option<&'a V>
+        ensures value { option_copied result ≡ value_at key self.old }
+        ensures same { self.new ≡ self.old }
+    {
+        value_in(self.leaf_of(key), key)
+    }
+
+    // The leaf of the key's block.
+    #[inline(always)]
+    fn leaf_of(&mut self, key: u32) -> Option<&'a Leaf<V>>
+        ensures leaf { IsLeafOf 4294967296 self.old (key / 16) (option_copied result) }
+        ensures same { self.new ≡ self.old }
+    {
+        let block = key >> 4;
+        match &self.kept {
+            Some(kept) => {
+                if kept.block == block {
+                    return kept.leaf;
+                }
+            }
+            None => {}
+        }
+        let leaf = self.path.find(key, ROOT_SHIFT);
+        self.kept = Some(BlockLeaf { block, leaf });
+        leaf
+    }
+}
+
+// The value at the key in the leaf of its block.
+#[inline(always)]
+fn value_in<'a, V: Drop>(leaf: Option<&'a Leaf<V>>, key: u32) -> Option<&'a V>
+    ensures { option_copied result
+        ≡ value_at (key % 16) (part leaf_entries (option_copied leaf.entry)) }
+{
+    match leaf {
+        Some(leaf) => leaf.get(key, 0),
+        None => None,
     }
 }
 
@@ -91,19 +184,14 @@ pub(crate) trait Finger<'a, V, L: Level<V>>: Drop {
         ensures found { found result ≡ L.entries node.now }
         ensures sound { sound result };
 
-    fn find(&mut self, key: u32, shift: u32) -> Option<&'a V>
+    /// The leaf of the key's block.
+    fn find(&mut self, key: u32, shift: u32) -> Option<&'a Leaf<V>>
         requires level { shift ≡ L.bits }
         requires small { shift ≤ 28 }
         requires sound { sound self.old }
-        ensures value { option_copied result ≡ value_at (key % (block L.bits)) (found self.old) }
+        ensures leaf { IsLeafOf (block L.bits) (found self.old) (key / 16) (option_copied result) }
         ensures same { found self.new ≡ found self.old }
         ensures sound { sound self.new };
-}
-
-/// A leaf: no path is left below it.
-#[derive(Drop)]
-pub(crate) struct LeafFinger<'a, V> {
-    leaf: &'a Leaf<V>,
 }
 
 /// A node, and the path below its child at place `at`.
@@ -114,18 +202,20 @@ pub(crate) struct NodeFinger<'a, L, F> {
     inner: Option<F>,
 }
 
-impl<'a, V: Drop> Finger<'a, V, Leaf<V>> for LeafFinger<'a, V> {
-    ghost found = { λ f. leaf_map f.leaf.now.places };
+// A path ends at a node whose children are leaves: the last of them is kept beside the path.
+impl<'a, V: Drop> Finger<'a, V, Node1<V>> for &'a Node1<V> {
+    ghost found = { λ f. node_map leaf_entries 0 f.now.places };
 
     ghost sound = { λ _. Unit {0} };
 
-    fn begin(node: &'a Leaf<V>) -> Self {
-        LeafFinger { leaf: node }
+    fn begin(node: &'a Node1<V>) -> Self {
+        node
     }
 
     #[inline(always)]
-    fn find(&mut self, key: u32, shift: u32) -> Option<&'a V> {
-        self.leaf.get(key, shift)
+    fn find(&mut self, key: u32, shift: u32) -> Option<&'a Leaf<V>> {
+        let node = *self;
+        node.places.get(place(key, shift))
     }
 }
 
@@ -144,7 +234,7 @@ impl<'a, V: Drop, L: Level<V>, F: Finger<'a, V, L>> Finger<'a, V, Node<L>>
     }
 
     #[inline(always)]
-    fn find(&mut self, key: u32, shift: u32) -> Option<&'a V> {
+    fn find(&mut self, key: u32, shift: u32) -> Option<&'a Leaf<V>> {
         let node = self.node;
         let at = place(key, shift);
         if at == self.at {
@@ -163,24 +253,5 @@ impl<'a, V: Drop, L: Level<V>, F: Finger<'a, V, L>> Finger<'a, V, Node<L>>
             }
             None => None,
         }
-    }
-}
-
-// The value at the key.
-fn find<'a, V: Drop>(
-    finger: &mut RootFinger<'a, V>,
-    pending: &'a [Edit<V>],
-    key: u32,
-) -> Option<&'a V>
-    requires sound { root_sound finger.old }
-    requires rise { Rises 0 4294967296 pending.now }
-    ensures value { option_copied result
-        ≡ value_at key (edited_all (root_found finger.old) pending.now) }
-    ensures same { root_found finger.new ≡ root_found finger.old }
-    ensures sound { root_sound finger.new }
-{
-    match edit_at(pending, key) {
-        Some(value) => set_value(value),
-        None => finger.find(key, ROOT_SHIFT),
     }
 }

@@ -1,18 +1,18 @@
 use Rattle.std.proofs.Common.{◌≡◌, option_copied, ap, ◌∙◌, rules}
 use Rattle.radix_map.specs.Map.{root_entries}
 use Rattle.radix_map.specs.Entries.{value_at}
-use Rattle.radix_map.proofs.Roots.{found_set, found_below}
+use Rattle.radix_map.proofs.Roots.{found_set, found_below, root_rises}
 use Rattle.radix_map.proofs.map.Map.get.Goals as goal
 
 pub returns-in-Some : goal.returns-in-Some
 returns-in-Some g c =
     let m = c.self.inside in
     let key = c.args.key in
-    found_set m.root key m.pending c.in-Some.value.now (option_copied c.set_value.result) c.self.invariant.rise (c.in-Some.ensures ∙ ap (value_at key) c.rest.ensures) c.set_value.ensures ∙ ap (value_at key) c.self.view_is
+    found_set (root_entries m.root) key m.pending c.in-Some.value.now (option_copied c.set_value.result) (root_rises m.root) c.self.invariant.rise (c.in-Some.ensures ∙ ap (value_at key) c.rest.ensures) c.set_value.ensures ∙ ap (value_at key) c.self.view_is
 
 pub returns-in-None : goal.returns-in-None
 returns-in-None g c =
     let m = c.self.inside in
     let key = c.args.key in
     let tree : option_copied c.get.result ≡ value_at key (root_entries m.root) = search rules in
-    found_below m.root key m.pending (option_copied c.get.result) c.self.invariant.rise (c.in-None.ensures ∙ ap (value_at key) c.rest.ensures) tree ∙ ap (value_at key) c.self.view_is
+    found_below (root_entries m.root) key m.pending (option_copied c.get.result) (root_rises m.root) c.self.invariant.rise (c.in-None.ensures ∙ ap (value_at key) c.rest.ensures) tree ∙ ap (value_at key) c.self.view_is
