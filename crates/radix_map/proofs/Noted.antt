@@ -8,7 +8,7 @@ use Rattle.std.specs.Arc.{arc_value}
 use Rattle.std.specs.declared.sync.Arc.{Arc}
 use Rattle.std.specs.Ordering.{match_ordering}
 use Rattle.radix_map.specs.Entries.{value_at, with_key, without_key, edited, edited_all, Rises, KeysFit}
-use Rattle.radix_map.specs.Pending.{told, edit_or, StartsAbove, IsPast}
+use Rattle.radix_map.specs.Pending.{told, StartsAbove, IsPast}
 use Rattle.radix_map.specs.Rising.{rises_lower}
 use Rattle.radix_map.proofs.Keys.{value_below, rises_order, edited-append_right, with_below, without_below}
 use Rattle.radix_map.proofs.Trees.{edited_rises}
@@ -19,6 +19,11 @@ fit_from_rises a [] h = tt
 fit_from_rises a (p ∷ ps) h = let l = rises_order (p.0 + 1) 4294967296 ps h.1 in (omega arith, fit_from_rises (p.0 + 1) ps h.1)
 
 -- ---- the value at a key
+
+-- what is found at a key: what an edit sets, where there is one, and o else
+abbrev pub edit_or : {V Z : Type 0} → Option (Option (Arc V Z)) → Option V → Option V
+edit_or None o = o
+edit_or (Some e) o = option_map arc_value e
 
 noted_first : {V Z : Type 0} (k b : ℕ) (e : ℕ × Option (Arc V Z)) (ps : List (ℕ × Option (Arc V Z))) (u : Option V) (t : Bool) → is_eq (nat_cmp k e.0) ≡ t → Rises (e.0 + 1) b ps → edit_or (value_at k ps) (cond t (option_map arc_value e.1) u) ≡ edit_or (cond t (Some e.1) (value_at k ps)) u
 noted_first k b e ps u true q h =

@@ -7,9 +7,9 @@ use Rattle.radix_map.specs.declared.level.Leaf.{Leaf}
 use Rattle.radix_map.specs.declared.level.Node.{Node}
 use Rattle.radix_map.specs.Entries.{value_at, edited, edited_all, edited_within, KeysFit, Rises}
 use Rattle.radix_map.specs.Map.{leaf_entries, node_entries, root_entries}
-use Rattle.radix_map.specs.Pending.{edit_or, IsCarried}
+use Rattle.radix_map.specs.Pending.{IsCarried}
 use Rattle.std.proofs.lemmas.List.{take-append-drop}
-use Rattle.radix_map.proofs.Noted.{value_noted, fit_from_rises}
+use Rattle.radix_map.proofs.Noted.{edit_or, value_noted, fit_from_rises}
 use Rattle.radix_map.proofs.Values.{within_rises}
 use Rattle.radix_map.specs.Rising.{leaf_rises, node_rises, rises_lower, rises-length}
 

@@ -255,12 +255,6 @@ in_place_more step i [] n d l h e = absurd (omega arith)
 in_place_more step i (x ∷ xs) zero d l h e = (e, tt)
 in_place_more step i (x ∷ xs) (suc n) d l h e = (h.0, in_place_more step i xs n d (omega arith) h.1 e)
 
-pub within_more : {V Z : Type 0} (w : ℕ) (es : List (ℕ × V)) (xs : List (ℕ × Option (Arc V Z))) (n : ℕ) (d : ℕ × Option (Arc V Z)) → n < length xs → edited_within w es (take (suc n) xs) ≡ edited (edited_within w es (take n xs)) ((get_or xs n d).0 % w) (option_map arc_value (get_or xs n d).1)
-unfolding edited_within
-within_more w es [] n d l = absurd (omega arith)
-within_more w es (x ∷ xs) zero d l = refl
-within_more w es (x ∷ xs) (suc n) d l = within_more w (edited es (x.0 % w) (option_map arc_value x.1)) xs n d (omega arith)
-
 pub within-append : {V Z : Type 0} (w : ℕ) (es : List (ℕ × V)) (xs ys : List (ℕ × Option (Arc V Z))) → edited_within w es (xs ++ ys) ≡ edited_within w (edited_within w es xs) ys
 unfolding edited_within
 within-append w es [] ys = refl

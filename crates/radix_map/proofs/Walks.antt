@@ -1,7 +1,6 @@
 -- The entries of the places from one on: none where all are free, and else those of the first item and those behind it.
-use Rattle.std.proofs.Common.{◌≡◌, ℕ, suc, zero, ◌+◌, ◌*◌, ◌^◌, ◌%◌, ◌-◌, ◌<◌, ◌≤◌, List, [], ◌∷◌, ◌++◌, length, take, drop, map, Option, Some, None, refl, sym, ap, ◌∙◌, arith, length-take, length-drop}
-use Rattle.std.proofs.Math.Nat.{add-mul, mul-le-mul_right, mod-eq_of_lt}
-use Rattle.std.proofs.Math.Pow.{pow_mono}
+use Rattle.std.proofs.Common.{◌≡◌, ℕ, suc, zero, ◌+◌, ◌*◌, ◌^◌, ◌-◌, ◌<◌, ◌≤◌, List, [], ◌∷◌, ◌++◌, length, take, drop, map, Option, Some, None, refl, sym, ap, ◌∙◌, arith, length-take, length-drop}
+use Rattle.std.proofs.Math.Nat.{add-mul, mul-le-mul_right}
 use Rattle.radix_map.specs.Rising.{pow_16}
 use Rattle.radix_map.specs.Places.{item_at, IsNext}
 use Rattle.radix_map.specs.Entries.{raised, part, joined, entries_of, entries_behind, single}
@@ -37,9 +36,6 @@ item_behind (suc n) (suc at) i [] h = refl
 item_behind (suc n) (suc at) i (x ∷ xs) h =
     let e : suc (at + i) ≡ suc at + i = omega arith in
     item_behind n at i xs (omega arith) ∙ ap (λ k. item_at (x ∷ xs) k) e
-
-behind_size : {T : Type 0} (at : ℕ) (xs : List (Option T)) → length (drop at (take 16 xs)) + at ≤ 16 + at
-behind_size at xs = let a = length-drop at (take 16 xs) in let b = length-take 16 xs in omega arith
 
 pub behind_none : {T V : Type 0} (f : T → List (ℕ × V)) (step base at : ℕ) (xs : List (Option T)) → ((k : ℕ) → at ≤ k → k < 16 → item_at xs k ≡ None) → entries_behind f step base at xs ≡ []
 unfolding entries_behind
@@ -117,13 +113,6 @@ child_fits base n s m l h =
     let k = mul-le-mul_right (2 ^ (s + 4)) le in
     let e : suc n * 2 ^ (s + 4) ≡ n * 2 ^ (s + 4) + 2 ^ (s + 4) = omega arith in
     omega arith
-
-pub place_fits : (n shift : ℕ) → n < 16 → shift ≤ 28 → n * 2 ^ shift % 4294967296 ≡ n * 2 ^ shift
-place_fits n shift l h =
-    let p : 2 ^ shift ≤ 2 ^ 28 = pow_mono h in
-    let q : n ≤ 15 = omega arith in
-    let a = mul-le-mul_right (2 ^ shift) q in
-    mod-eq_of_lt (omega arith)
 
 pub raised_zero : {V : Type 0} (es : List (ℕ × V)) → raised 0 es ≡ es
 unfolding raised

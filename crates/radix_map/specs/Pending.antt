@@ -1,5 +1,5 @@
 -- Edits that a map has noted, by strictly rising key: they count before what its tree has.
-use Rattle.std.specs.Prelude.{ℕ, ◌<◌, ◌≤◌, List, [], ◌∷◌, Option, Some, None, option_map, take, drop, ◌≡◌, ◌⊎◌}
+use Rattle.std.specs.Prelude.{ℕ, ◌<◌, ◌≤◌, List, [], ◌∷◌, Option, option_map, take, drop, ◌≡◌, ◌⊎◌}
 use Rattle.std.specs.Arc.{arc_value}
 use Rattle.std.specs.declared.sync.Arc.{Arc}
 use Rattle.radix_map.specs.Entries.{edited_within}
@@ -7,11 +7,6 @@ use Rattle.radix_map.specs.Entries.{edited_within}
 -- an edit by its key and value, whatever pointer leads to the value
 abbrev pub told : {V Z : Type 0} → ℕ × Option (Arc V Z) → ℕ × Option V
 told e = (e.0, option_map arc_value e.1)
-
--- what is found at a key: what an edit sets, where there is one, and o else
-abbrev pub edit_or : {V Z : Type 0} → Option (Option (Arc V Z)) → Option V → Option V
-edit_or None o = o
-edit_or (Some e) o = option_map arc_value e
 
 -- the first entry has a key above k, if there is one
 abbrev pub StartsAbove : {V : Type 0} → ℕ → List (ℕ × V) → Type 0

@@ -1,6 +1,6 @@
 //! How an edit changes the places of a leaf: its value is shared, or moves there.
 
-ghost use Rattle.std.specs.Prelude.{◌≡◌, ◌+◌, ◌%◌, ◌<◌, ◌≤◌, length, option_map, slice_set};
+ghost use Rattle.std.specs.Prelude.{◌≡◌, ◌%◌, ◌<◌, ◌≤◌, length, option_map, slice_set};
 ghost use Rattle.std.specs.Prelude.{IfOk, OnOk, OnErr, cond, not, ◌&&◌};
 ghost use Rattle.std.specs.Arc.{arc_value};
 ghost use Rattle.radix_map.specs.Entries.{edited, leaf_map, Counts};
