@@ -1,9 +1,9 @@
 -- A level carries its edits run by run: those that are done have made its entries, and the rest is as it came.
-use Rattle.std.proofs.Common.{◌≡◌, ℕ, suc, ◌+◌, ◌%◌, ◌<◌, ◌≤◌, List, [], ◌∷◌, ◌++◌, length, drop, get_or, option_map, Option, refl, sym, ap, ◌∙◌, arith, length-append, append_assoc}
+use Rattle.std.proofs.Common.{◌≡◌, ℕ, suc, ◌+◌, ◌%◌, ◌<◌, ◌≤◌, List, [], ◌∷◌, ◌++◌, length, drop, get_or, option_map, Option, Result, Ok, Err, OnErr, refl, sym, ap, ◌∙◌, arith, length-append, append_assoc}
 use Rattle.std.proofs.Math.Seq.{drop-cons}
 use Rattle.std.specs.Arc.{arc_value}
 use Rattle.std.specs.declared.sync.Arc.{Arc}
-use Rattle.radix_map.specs.Entries.{edited, edited_within, KeysFit, Counts}
+use Rattle.radix_map.specs.Entries.{edited, edited_within, KeysFit, Counts, IsEdited}
 use Rattle.radix_map.proofs.Trees.{within-append, fit-append}
 
 -- of the edits all but the rest are done, and made the entries es those of now
@@ -28,16 +28,19 @@ carried_none w es edits = record {
   few_removed = omega arith;
 }
 
-pub carried_more : {V Z : Type 0} (w : ℕ) (es now next : List (ℕ × V)) (edits rest run later : List (ℕ × Option (Arc V Z))) (added removed a r : ℕ) → Carried w es now edits rest added removed → rest ≡ run ++ later → KeysFit run → next ≡ edited_within w now run → Counts (length now) (length next) a r → a ≤ length run → r ≤ length run → Carried w es next edits later (added + a) (removed + r)
-carried_more w es now next edits rest run later added removed a r c e fit k n l m =
+pub carried_more : {V Z : Type 0} (w : ℕ) (es now next : List (ℕ × V)) (edits rest run later : List (ℕ × Option (Arc V Z))) (added removed a r : ℕ) → Carried w es now edits rest added removed → rest ≡ run ++ later → KeysFit run → IsEdited w now next run a r → Carried w es next edits later (added + a) (removed + r)
+carried_more w es now next edits rest run later added removed a r c e fit did =
     let size = length-append c.done run in
     let before = c.counted in
+    let after = did.counted in
     let low = c.few_added in
     let high = c.few_removed in
+    let more = did.few_added in
+    let less = did.few_removed in
     record {
       done = c.done ++ run;
       all = c.all ∙ ap (λ t. c.done ++ t) e ∙ sym (append_assoc c.done run later);
-      is = k ∙ ap (λ t. edited_within w t run) c.is ∙ sym (within-append w es c.done run);
+      is = did.made ∙ ap (λ t. edited_within w t run) c.is ∙ sym (within-append w es c.done run);
       fit = fit-append c.done run c.fit fit;
       counted = omega arith;
       few_added = omega arith;
@@ -56,6 +59,11 @@ carried_alone w es now part edits rest run later added removed c e p k n =
     let rest_size = ap length e ∙ length-append run later in
     let none : length c.done ≡ 0 = omega arith in
     k (omega arith) ∙ c.is ∙ none_before w es c.done none
+
+-- what holds whatever came holds after want of memory
+pub at_err : {X E P : Type 0} (r : Result X E) → P → OnErr r P
+at_err (Ok x) p = tt
+at_err (Err x) p = p
 
 -- ---- a leaf takes its edits one by one
 

@@ -5,6 +5,7 @@ use Rattle.std.specs.declared.sync.Arc.{Arc}
 use Rattle.radix_map.specs.Entries.{edited_within, entries_of, Rises, InPlace, Counts}
 use Rattle.radix_map.specs.Pending.{IsCarried}
 use Rattle.radix_map.specs.Places.{item_at}
+use Rattle.radix_map.proofs.Carried.{at_err}
 use Rattle.radix_map.proofs.Trees.{within-append, node_edited}
 use Rattle.radix_map.proofs.Edits.{IsChange}
 
@@ -73,8 +74,7 @@ carried_nothing w es now count noted e = record {
 }
 
 pub stopped_before : {X E V Z : Type 0} (r : Result X E) (w : ℕ) (es : List (ℕ × V)) (count : ℕ) (noted : List (ℕ × Option (Arc V Z))) → OnErr r (IsCarried w es es count noted noted)
-stopped_before (Ok x) w es count noted = tt
-stopped_before (Err x) w es count noted = carried_nothing w es es count noted refl
+stopped_before r w es count noted = at_err r (carried_nothing w es es count noted refl)
 
 -- ---- into one place of a node
 
@@ -99,16 +99,6 @@ item_set (y ∷ xs) zero x l = refl
 item_set (y ∷ xs) (suc i) x l = item_set xs i x (omega arith)
 
 -- ---- the edits of a note, of which some are carried
-
-pub set_same : {A : Type 0} (xs : List A) (i : ℕ) (x y : A) → x ≡ get_or xs i x → y ≡ x → set xs i y ≡ xs
-set_same [] i x y e q = refl
-set_same (z ∷ xs) zero x y e q = ap (λ t. t ∷ xs) (q ∙ e)
-set_same (z ∷ xs) (suc i) x y e q = ap (λ t. z ∷ t) (set_same xs i x y e q)
-
-pub drop-set : {A : Type 0} (xs : List A) (i : ℕ) (y : A) → drop (suc i) (set xs i y) ≡ drop (suc i) xs
-drop-set [] i y = refl
-drop-set (x ∷ xs) zero y = refl
-drop-set (x ∷ xs) (suc i) y = drop-set xs i y
 
 pub first_of : {A : Type 0} (xs ys : List A) (i : ℕ) (x : A) → drop i xs ≡ ys → i < length xs → x ≡ get_or xs i x → take 1 ys ≡ x ∷ []
 first_of xs ys i x v l e = ap (take 1) (sym v ∙ drop-cons xs i x l) ∙ ap (λ t. t ∷ []) (sym e)

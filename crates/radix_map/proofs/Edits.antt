@@ -7,7 +7,7 @@ use Rattle.std.proofs.lemmas.List.{length-map}
 use Rattle.std.proofs.Math.ListN.{get_or-map}
 use Rattle.std.proofs.lemmas.Nat.Bits.{bit_at-lt}
 use Rattle.radix_map.specs.Places.{item_at, places_of, taken}
-use Rattle.radix_map.specs.Entries.{edited_within, entries_of, part, joined, Rises, InPlace, Counts}
+use Rattle.radix_map.specs.Entries.{edited_within, entries_of, part, joined, Rises, InPlace, Counts, IsEdited}
 use Rattle.radix_map.proofs.Digits.{free_place, taken_place, places-length}
 use Rattle.radix_map.proofs.Copied.{refilled}
 use Rattle.radix_map.proofs.Trees.{map-set, take-set, set-own, part_at, node_edited, node_counted}
@@ -37,6 +37,15 @@ pub change_counted : {T V E X : Type 0} (r : Result X E) (added removed : X → 
 change_counted (Ok x) added removed f step xs ys i a b l c k =
     subst (λ t. Counts (length (entries_of f step xs)) (length (entries_of f step t)) (added x) (removed x)) (sym c.is) (node_counted f step xs i (Some a) (Some b) (f b) (added x) (removed x) l c.wide (sym c.was) refl k)
 change_counted (Err x) added removed f step xs ys i a b l c k = k
+
+pub change_edited : {T V Z E X : Type 0} (r : Result X E) (added removed : X → ℕ) (f : T → List (ℕ × V)) (s : ℕ) → ((x : T) → Rises 0 (16 * 2 ^ s) (f x)) → (xs ys : List (Option T)) (shift i : ℕ) (a b : T) (run : List (ℕ × Option (Arc V Z))) → shift ≡ s + 4 → i < 16 → InPlace (2 ^ shift) i run → IsChange xs ys i a b → IfOk r (λ t. IsEdited (16 * 2 ^ s) (f a) (f b) run (added t) (removed t)) → IfOk r (λ t. IsEdited (16 * 2 ^ (s + 4)) (entries_of f (2 ^ (s + 4)) xs) (entries_of f (2 ^ (s + 4)) ys) run (added t) (removed t))
+change_edited {E = E} (Ok x) added removed f s h xs ys shift i a b run e l n c k = record {
+  made = change_ok {E = E} (Ok x) f s h xs ys shift i a b run e l n c k.made;
+  counted = change_counted {E = E} (Ok x) added removed f (2 ^ (s + 4)) xs ys i a b l c k.counted;
+  few_added = k.few_added;
+  few_removed = k.few_removed;
+}
+change_edited (Err x) added removed f s h xs ys shift i a b run e l n c k = k
 
 -- a place that has an item is taken
 pub taken_digit : {T : Type 0} (i b : ℕ) (ys : List T) → i < 16 → length ys ≡ taken 16 b → IsSome (item_at (places_of 16 b ys) i) → bit_at b i ≡ 1

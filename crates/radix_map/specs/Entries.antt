@@ -87,6 +87,13 @@ InPlace step i (e ∷ edits) = (e.0 / step % 16 ≡ i) × InPlace step i edits
 abbrev pub Counts : ℕ → ℕ → ℕ → ℕ → Type 0
 Counts n m added removed = m + removed ≡ n + added
 
+-- the edits made entries new of entries old, each key counted within blocks of width keys, and added and removed so many keys: no more than there are edits
+pub record IsEdited {V Z : Type 0} (width : ℕ) (old new : List (ℕ × V)) (edits : List (ℕ × Option (Arc V Z))) (added removed : ℕ) : Type 0 where
+  pub made : new ≡ edited_within width old edits
+  pub counted : Counts (length old) (length new) added removed
+  pub few_added : added ≤ length edits
+  pub few_removed : removed ≤ length edits
+
 -- the edits are a run in place i, which is not empty, and the rest
 pub record IsFirstRun {V Z : Type 0} (step : ℕ) (edits : List (ℕ × Option (Arc V Z))) (i : ℕ) (run rest : List (ℕ × Option (Arc V Z))) : Type 0 where
   pub place : i < 16

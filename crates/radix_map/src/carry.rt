@@ -39,14 +39,10 @@ pub(crate) fn carry_run<V: Drop, L: Level<V>>(
         (length (node_map L.entries L.bits places.new)) t.added t.removed) }
     ensures few { IfOk result (λ t. (t.added ≤ count) × (t.removed ≤ count)) }
 {
-    match open_place(places, alloc, at, count) {
-        Ok(()) => {
-            let carried = places.carry_child(alloc, at, note, count, shift);
-            drop_empty(places, at);
-            carried
-        }
-        Err(refused) => Err(refused),
-    }
+    open_place(places, alloc, at, count)?;
+    let carried = places.carry_child(alloc, at, note, count, shift);
+    drop_empty(places, at);
+    carried
 }
 
 // Place `at` has a child then: an empty one where it was free, with room for `more` items.
@@ -80,6 +76,7 @@ fn fill_empty<V, L: Level<V>>(
     ensures same { node_map L.entries L.bits places.new ≡ node_map L.entries L.bits places.old }
     ensures taken { OnOk result (IsSome (item_at places.new at)) }
 {
+    // A copy of the empty node has the room.
     let child = L::empty(alloc).copy(alloc, more)?;
     places.put(at, Some(Arc::new(alloc, child)?))?;
     Ok(())

@@ -1,6 +1,6 @@
 //! Look-ups of many keys, which keep the path to the last one and the leaf at its end.
 
-ghost use Rattle.std.specs.Prelude.{◌≡◌, ℕ, ◌+◌, ◌/◌, ◌%◌, ◌≤◌, List, option_copied, map, Option};
+ghost use Rattle.std.specs.Prelude.{◌≡◌, ℕ, ◌/◌, ◌%◌, ◌≤◌, List, option_copied, map, Option};
 ghost use Rattle.std.specs.Iterator.{YieldsFirstBy, item_count};
 ghost use Rattle.radix_map.specs.Entries.{value_at, edited_all, node_map, block, part, Rises};
 ghost use Rattle.radix_map.specs.Inner.{IsFingerOf, IsLeafOf};
@@ -105,7 +105,7 @@ struct TreeFinger<'a, V> {
 
 /// The leaf of a block of sixteen keys, if there is one.
 #[derive(Drop)]
-pub(crate) struct BlockLeaf<'a, V> {
+struct BlockLeaf<'a, V> {
     /// The keys without their lowest four bits.
     block: u32,
     leaf: Option<&'a Leaf<V>>,

@@ -2,11 +2,11 @@
 
 ghost use Rattle.std.specs.Prelude.{◌≡◌, ℕ, ◌+◌, ◌*◌, ◌/◌, ◌%◌, ◌^◌, ◌<◌, ◌≤◌, List, [], length, take, drop};
 ghost use Rattle.std.specs.Prelude.{IfOk, OnOk, OnErr, IsSome, IfNone, IfSome, Some, None, Option};
-ghost use Rattle.std.specs.Prelude.{option_copied, option_map, true, cond, not, ◌&&◌};
+ghost use Rattle.std.specs.Prelude.{option_copied, option_map, true};
 ghost use Rattle.std.specs.Arc.{arc_value};
 ghost use Rattle.radix_map.specs.Places.{item_at};
-ghost use Rattle.radix_map.specs.Entries.{value_at, edited, edited_within, Rises, part, leaf_map};
-ghost use Rattle.radix_map.specs.Entries.{node_map, block, InPlace, IsFirstRun, KeysFit, Counts};
+ghost use Rattle.radix_map.specs.Entries.{value_at, edited_within, Rises, part, leaf_map, node_map, block};
+ghost use Rattle.radix_map.specs.Entries.{InPlace, IsEdited, IsFirstRun, KeysFit, Counts};
 ghost use Rattle.radix_map.specs.Pending.{IsCarried};
 
 use crate::carry::carry_run;
@@ -57,14 +57,10 @@ pub(crate) trait Level<V>: Drop {
     fn edit(&mut self, alloc: Global, edits: &[Edit<V>], shift: u32) -> Result<Tally, Memory>
         requires level { shift ≡ bits }
         requires small { shift ≤ 28 }
-        ensures ok { OnOk result
-            (entries self.new ≡ edited_within (block bits) (entries self.old) edits.now) }
+        ensures ok { IfOk result (λ t. IsEdited (block bits) (entries self.old)
+            (entries self.new) edits.now t.added t.removed) }
         ensures alone { length edits.now ≤ 1
             → OnErr result (entries self.new ≡ entries self.old) }
-        ensures counted { IfOk result (λ t. Counts (length (entries self.old))
-            (length (entries self.new)) t.added t.removed) }
-        ensures few { IfOk result
-            (λ t. (t.added ≤ length edits.now) × (t.removed ≤ length edits.now)) }
         ensures fit { OnOk result (KeysFit edits.now) };
 
     /// Carries the next `count` noted edits. What nobody else holds is changed where it is and takes
@@ -155,13 +151,9 @@ impl<V: Drop> Level<V> for Leaf<V> {
             removed: 0,
         };
         for edit in edits {
-            match edit_value(&mut self.places, edit.0, &edit.1) {
-                Ok(one) => {
-                    tally.added += one.added;
-                    tally.removed += one.removed;
-                }
-                Err(refused) => return Err(refused),
-            }
+            let one = edit_value(&mut self.places, edit.0, &edit.1)?;
+            tally.added += one.added;
+            tally.removed += one.removed;
         }
         Ok(tally)
     }
@@ -178,13 +170,9 @@ impl<V: Drop> Level<V> for Leaf<V> {
             removed: 0,
         };
         for _done in 0..count {
-            match note.carry_first(&mut self.places) {
-                Ok(one) => {
-                    tally.added += one.added;
-                    tally.removed += one.removed;
-                }
-                Err(refused) => return Err(refused),
-            }
+            let one = note.carry_first(&mut self.places)?;
+            tally.added += one.added;
+            tally.removed += one.removed;
         }
         Ok(tally)
     }
@@ -230,14 +218,12 @@ impl<V: Drop, L: Level<V>> Level<V> for Node<L> {
         let mut rest = edits;
         loop {
             match next_run(rest, shift) {
-                Some(run) => match edit_run(&mut self.places, alloc, run.at, run.edits, shift) {
-                    Ok(one) => {
-                        tally.added += one.added;
-                        tally.removed += one.removed;
-                        rest = run.rest;
-                    }
-                    Err(refused) => return Err(refused),
-                },
+                Some(run) => {
+                    let one = edit_run(&mut self.places, alloc, run.at, run.edits, shift)?;
+                    tally.added += one.added;
+                    tally.removed += one.removed;
+                    rest = run.rest;
+                }
                 None => return Ok(tally),
             }
         }
@@ -257,14 +243,10 @@ impl<V: Drop, L: Level<V>> Level<V> for Node<L> {
         let mut done = 0;
         while done < count {
             let (at, n) = first_run(&note.rest()[..count - done], shift);
-            match carry_run(&mut self.places, alloc, at, note, n, shift) {
-                Ok(one) => {
-                    tally.added += one.added;
-                    tally.removed += one.removed;
-                    done += n;
-                }
-                Err(refused) => return Err(refused),
-            }
+            let one = carry_run(&mut self.places, alloc, at, note, n, shift)?;
+            tally.added += one.added;
+            tally.removed += one.removed;
+            done += n;
         }
         Ok(tally)
     }
@@ -348,14 +330,11 @@ fn edit_run<V, L: Level<V>>(
     requires small { shift ≤ 28 }
     requires at { at < 16 }
     requires run { InPlace (2 ^ shift) at run.now }
-    ensures ok { OnOk result (node_map L.entries L.bits places.new ≡ edited_within
-        (block (L.bits + 4)) (node_map L.entries L.bits places.old) run.now) }
+    ensures ok { IfOk result (λ t. IsEdited (block (L.bits + 4))
+        (node_map L.entries L.bits places.old) (node_map L.entries L.bits places.new)
+        run.now t.added t.removed) }
     ensures alone { length run.now ≤ 1 → OnErr result (node_map L.entries L.bits places.new
         ≡ node_map L.entries L.bits places.old) }
-    ensures counted { IfOk result (λ t. Counts (length (node_map L.entries L.bits places.old))
-        (length (node_map L.entries L.bits places.new)) t.added t.removed) }
-    ensures few { IfOk result
-        (λ t. (t.added ≤ length run.now) × (t.removed ≤ length run.now)) }
 {
     if places.get(at).is_some() {
         edit_run_here(places, alloc, at, run, shift)
@@ -377,22 +356,15 @@ fn edit_run_here<V, L: Level<V>>(
     requires at { at < 16 }
     requires taken { IsSome (item_at places.old at) }
     requires run { InPlace (2 ^ shift) at run.now }
-    ensures ok { OnOk result (node_map L.entries L.bits places.new ≡ edited_within
-        (block (L.bits + 4)) (node_map L.entries L.bits places.old) run.now) }
+    ensures ok { IfOk result (λ t. IsEdited (block (L.bits + 4))
+        (node_map L.entries L.bits places.old) (node_map L.entries L.bits places.new)
+        run.now t.added t.removed) }
     ensures alone { length run.now ≤ 1 → OnErr result (node_map L.entries L.bits places.new
         ≡ node_map L.entries L.bits places.old) }
-    ensures counted { IfOk result (λ t. Counts (length (node_map L.entries L.bits places.old))
-        (length (node_map L.entries L.bits places.new)) t.added t.removed) }
-    ensures few { IfOk result
-        (λ t. (t.added ≤ length run.now) × (t.removed ≤ length run.now)) }
 {
-    match places.edit_child(alloc, at, run, shift) {
-        Ok(tally) => {
-            drop_empty(places, at);
-            Ok(tally)
-        }
-        Err(refused) => Err(refused),
-    }
+    let tally = places.edit_child(alloc, at, run, shift)?;
+    drop_empty(places, at);
+    Ok(tally)
 }
 
 // Makes a child of the edits at a free place, unless they leave none.
@@ -409,15 +381,13 @@ fn edit_run_anew<V, L: Level<V>>(
     requires free { item_at places.old at ≡ None }
     requires wide { length places.old ≡ 16 }
     requires run { InPlace (2 ^ shift) at run.now }
-    ensures ok { OnOk result (node_map L.entries L.bits places.new ≡ edited_within
-        (block (L.bits + 4)) (node_map L.entries L.bits places.old) run.now) }
+    ensures ok { IfOk result (λ t. IsEdited (block (L.bits + 4))
+        (node_map L.entries L.bits places.old) (node_map L.entries L.bits places.new)
+        run.now t.added t.removed) }
     ensures err { OnErr result (node_map L.entries L.bits places.new
         ≡ node_map L.entries L.bits places.old) }
-    ensures counted { IfOk result (λ t. Counts (length (node_map L.entries L.bits places.old))
-        (length (node_map L.entries L.bits places.new)) t.added t.removed) }
-    ensures few { IfOk result
-        (λ t. (t.added ≤ length run.now) × (t.removed ≤ length run.now)) }
 {
+    // A copy of the empty node has room for as many items as the run may add.
     let mut child = L::empty(alloc).copy(alloc, run.len())?;
     let tally = child.edit(alloc, run, shift - 4)?;
     let item = shared(alloc, child)?;
@@ -454,14 +424,10 @@ pub(crate) fn edit_shared<V, L: Level<V>>(
 ) -> Result<Tally, Memory>
     requires level { shift ≡ L.bits }
     requires small { shift ≤ 28 }
-    ensures ok { OnOk result (L.entries (arc_value node.new)
-        ≡ edited_within (block L.bits) (L.entries (arc_value node.old)) edits.now) }
+    ensures ok { IfOk result (λ t. IsEdited (block L.bits) (L.entries (arc_value node.old))
+        (L.entries (arc_value node.new)) edits.now t.added t.removed) }
     ensures alone { length edits.now ≤ 1
         → OnErr result (L.entries (arc_value node.new) ≡ L.entries (arc_value node.old)) }
-    ensures counted { IfOk result (λ t. Counts (length (L.entries (arc_value node.old)))
-        (length (L.entries (arc_value node.new))) t.added t.removed) }
-    ensures few { IfOk result
-        (λ t. (t.added ≤ length edits.now) × (t.removed ≤ length edits.now)) }
 {
     match Arc::get_mut(node) {
         Some(own) => own.edit(alloc, edits, shift),

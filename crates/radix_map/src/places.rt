@@ -5,7 +5,7 @@ ghost use Rattle.std.specs.Prelude.{slice_set, IfNone, IfSome, IsSome, IfOk, IfE
 ghost use Rattle.std.specs.Prelude.{option_copied, option_map, true, take, drop};
 ghost use Rattle.std.specs.Arc.{arc_value};
 ghost use Rattle.std.specs.Int.{bit_at};
-ghost use Rattle.radix_map.specs.Entries.{edited_within, node_map, block, InPlace, Counts};
+ghost use Rattle.radix_map.specs.Entries.{edited_within, node_map, block, InPlace, IsEdited, Counts};
 ghost use Rattle.radix_map.specs.Pending.{IsCarried};
 ghost use Rattle.radix_map.specs.Places.{item_at, taken, digit_of, Replaces, IsNext, IsNextDigit};
 
@@ -132,14 +132,11 @@ impl<T: Drop> Places<T> {
         requires at { at < 16 }
         requires taken { IsSome (item_at self.old at) }
         requires run { InPlace (2 ^ shift) at run.now }
-        ensures ok { OnOk result (node_map T.entries T.bits self.new ≡ edited_within
-            (block (T.bits + 4)) (node_map T.entries T.bits self.old) run.now) }
+        ensures ok { IfOk result (λ t. IsEdited (block (T.bits + 4))
+            (node_map T.entries T.bits self.old) (node_map T.entries T.bits self.new)
+            run.now t.added t.removed) }
         ensures alone { length run.now ≤ 1 → OnErr result (node_map T.entries T.bits self.new
             ≡ node_map T.entries T.bits self.old) }
-        ensures counted { IfOk result (λ t. Counts (length (node_map T.entries T.bits self.old))
-            (length (node_map T.entries T.bits self.new)) t.added t.removed) }
-        ensures few { IfOk result
-            (λ t. (t.added ≤ length run.now) × (t.removed ≤ length run.now)) }
     {
         let low = rank(self.digits, at);
         edit_shared(&mut self.items[low], alloc, run, shift - 4)

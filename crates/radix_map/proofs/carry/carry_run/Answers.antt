@@ -1,9 +1,10 @@
 use Rattle.std.proofs.Common.{◌+◌, ◌^◌}
 use Rattle.radix_map.specs.Entries.{entries_of, block}
+use Rattle.radix_map.proofs.Carried.{at_err}
 use Rattle.radix_map.proofs.Carrying.{carried_nothing}
 use Rattle.radix_map.proofs.carry.carry_run.Goals as goal
 
-pub returns-in-Err-clause-err : goal.returns-in-Err-clause-err
-returns-in-Err-clause-err g c =
+pub returns-in_err-open_place-clause-err : goal.returns-in_err-open_place-clause-err
+returns-in_err-open_place-clause-err g c =
     let step = 2 ^ (g.L.Level.bits + 4) in
-    carried_nothing (block (g.L.Level.bits + 4)) (entries_of g.L.Level.entries step c.args.places.now) (entries_of g.L.Level.entries step c.open_place.new.places) c.args.count c.args.note.now c.in-Err.ensures.same
+    at_err c.from_residual.result (carried_nothing (block (g.L.Level.bits + 4)) (entries_of g.L.Level.entries step c.args.places.now) (entries_of g.L.Level.entries step c.open_place.new.places) c.args.count c.args.note.now c.in_err-open_place.ensures.same)

@@ -1,5 +1,6 @@
 use Rattle.std.proofs.Common.{◌+◌, ◌-◌, ◌*◌, ◌^◌, arith, length-take}
 use Rattle.radix_map.specs.Entries.{entries_of}
+use Rattle.radix_map.proofs.Carried.{at_err}
 use Rattle.radix_map.proofs.Carrying.{carrying_none, carrying_more, carrying_part}
 use Rattle.radix_map.proofs.level.NodeLevel.carry.Goals as goal
 
@@ -14,15 +15,15 @@ loop-done-preserved g c =
     let f = g.L.Level.entries in
     let n = c.first_run-at.result.1 in
     let t = c.loop-done.tally in
-    let one = c.in-Ok.one in
-    let did = c.in-Ok.ensures in
+    let one = c.in_ok-one.one in
+    let did = c.in_ok-one.ensures in
     let size = length-take (c.args.count - c.loop-done.done) c.rest.result.now in
     let few = c.first_run-at.ensures.few in
     let within = c.loop-done.invariant.1 in
     (carrying_more (16 * step) (entries_of f step c.args.self.now.places) (entries_of f step c.loop-done.self.places) (entries_of f step c.carry_run.new.places) c.args.note.now c.loop-done.note c.carry_run.new.note c.loop-done.done t.added t.removed n one.added one.removed c.loop-done.invariant.0 did.ok did.rest did.counted did.few.0 did.few.1, omega arith)
 
-pub returns-in-Err-clause-err : goal.returns-in-Err-clause-err
-returns-in-Err-clause-err g c =
+pub returns-in_err-one-clause-err : goal.returns-in_err-one-clause-err
+returns-in_err-one-clause-err g c =
     let step = 2 ^ (g.L.Level.bits + 4) in
     let f = g.L.Level.entries in
     let n = c.first_run-at.result.1 in
@@ -30,4 +31,4 @@ returns-in-Err-clause-err g c =
     let size = length-take (c.args.count - c.loop-done.done) c.rest.result.now in
     let few = c.first_run-at.ensures.few in
     let within = c.loop-done.invariant.1 in
-    carrying_part (16 * step) (entries_of f step c.args.self.now.places) (entries_of f step c.loop-done.self.places) (entries_of f step c.carry_run.new.places) c.args.count c.args.note.now c.loop-done.note c.carry_run.new.note c.loop-done.done t.added t.removed n c.loop-done.invariant.0 c.in-Err.ensures.err (omega arith)
+    at_err c.from_residual.result (carrying_part (16 * step) (entries_of f step c.args.self.now.places) (entries_of f step c.loop-done.self.places) (entries_of f step c.carry_run.new.places) c.args.count c.args.note.now c.loop-done.note c.carry_run.new.note c.loop-done.done t.added t.removed n c.loop-done.invariant.0 c.in_err-one.ensures.err (omega arith))

@@ -9,13 +9,13 @@ overflow_add-self g c =
     let m = c.self.inside in
     let before = ap length (no_edits (root_entries m.root) m.pending (c.is_empty.ensures c.if-not-is_empty.false)) in
     let size = root_size m.root in
-    omega (arith, c.self.invariant.counted, c.in_ok-tally.ensures.few)
+    omega (arith, c.self.invariant.counted, c.in_ok-tally.ensures.ok.few_added)
 
 pub overflow_sub-self : goal.overflow_sub-self
 overflow_sub-self g c =
     let m = c.self.inside in
     let before = ap length (no_edits (root_entries m.root) m.pending (c.is_empty.ensures c.if-not-is_empty.false)) in
-    omega (arith, c.self.invariant.counted, c.in_ok-tally.ensures.counted)
+    omega (arith, c.self.invariant.counted, c.in_ok-tally.ensures.ok.counted)
 
 pub invariant_of-self-2 : goal.invariant_of-self-2
 invariant_of-self-2 g c =
@@ -24,7 +24,7 @@ invariant_of-self-2 g c =
     let before = ap length (no_edits (root_entries m.root) m.pending none) in
     let after = ap length (no_edits (root_entries c.edit.new.self) m.pending none) in
     record {
-      counted = omega (arith, c.self.invariant.counted, c.in_ok-tally.ensures.counted);
+      counted = omega (arith, c.self.invariant.counted, c.in_ok-tally.ensures.ok.counted);
       rise = c.self.invariant.rise;
     }
 
@@ -33,4 +33,4 @@ returns-clause-ok g c =
     let m = c.self.inside in
     let edit = c.args.edit.now in
     let none = c.is_empty.ensures c.if-not-is_empty.false in
-    no_edits (root_entries c.edit.new.self) m.pending none ∙ root_edited m.root c.edit.new.self m.root edit edit refl c.in_ok-tally.ensures.fit refl c.in_ok-tally.ensures.ok ∙ ap (λ es. edited_all es edit) (sym (no_edits (root_entries m.root) m.pending none) ∙ c.self.view_is)
+    no_edits (root_entries c.edit.new.self) m.pending none ∙ root_edited m.root c.edit.new.self m.root edit edit refl c.in_ok-tally.ensures.fit refl c.in_ok-tally.ensures.ok.made ∙ ap (λ es. edited_all es edit) (sym (no_edits (root_entries m.root) m.pending none) ∙ c.self.view_is)
