@@ -1,19 +1,19 @@
 -- The lists stay filed when a node is linked into both its lists and when it is unlinked from both. In
 -- each family the way of one list changes by one key, so its values change by one value, and the laws of
 -- the two families of values say that they still agree.
-use Rattle.std.proofs.Common.{◌≡◌, ◌≢◌, refl, ap, sym, ◌∙◌, subst, ℕ, ◌<◌, Bool, true, false, not, cond, List, Option, None, Some, inl, inr}
+use Rattle.std.proofs.Common.{◌≡◌, ◌≢◌, refl, ap, sym, ◌∙◌, subst, ℕ, ◌<◌, arith, Bool, true, false, not, cond, List, Option, None, Some, inl, inr}
 use Rattle.std.specs.Prelude.{◌==◌, filter}
 use Rattle.std.specs.Bool.{Decides}
 use Rattle.grid_core.specs.declared.point.Point.{Point}
 use Rattle.grid_core.specs.Vector.{point_eq}
 use Rattle.grid_core.specs.Name.{Label, label_eq}
 use Rattle.pass_links.specs.declared.node.Node.{Node}
-use Rattle.pass_links.specs.Chain.{end, way, has_key, is_of, IsFamily, listed}
-use Rattle.pass_links.specs.Node.{name_of, pixel_of, node_at, along_at, across_at, name_at, pixel_at}
+use Rattle.pass_links.specs.Chain.{end, way, has_key, is_of, IsFamily, listed, IsPlace, key_of, LinksBack}
+use Rattle.pass_links.specs.Node.{name_of, pixel_of, node_at, along_at, across_at, back_along_at, back_across_at, name_at, pixel_at}
 use Rattle.pass_links.specs.Lists.{pixels_from, names_from}
 use Rattle.pass_links.specs.Passes.{has_pixel, linked_behind, with_name, without_pixel, without_name}
 use Rattle.pass_links.specs.Filing.{AreFiled, AreLonger}
-use Rattle.pass_links.specs.Seek.{IsPlace, IsLesser, IsThrough}
+use Rattle.pass_links.specs.Seek.{IsLesser, IsThrough}
 use Rattle.pass_links.specs.Links.{is_key}
 use Rattle.pass_links.proofs.FamilyLaws.{IsChanged}
 use Rattle.pass_links.proofs.ListedLaws.{listed_without, rising_once}
@@ -21,7 +21,9 @@ use Rattle.pass_links.proofs.LinkedLaws.{linked_more, linked_less}
 use Rattle.pass_links.proofs.TestLaws.{keys_differ, point_decides, label_decides}
 use Rattle.pass_links.proofs.PlaceLaws.{put_key, labelled, place_put, place_taken, values_kept, before_in}
 use Rattle.pass_links.proofs.ValueLaws.{IsGreaterOf, key_at, pixel_put, name_put}
-use Rattle.pass_links.proofs.NodeLaws.{Relinks}
+use Rattle.pass_links.proofs.WalkLaws.{place_stored}
+use Rattle.pass_links.proofs.BackLaws.{back_put, back_taken}
+use Rattle.pass_links.proofs.NodeLaws.{Relinks, HasLinks}
 
 module _ {K : Type 0} (same : K → K → Bool) (decides : (m n : K) → Decides (same m n) (m ≡ n)) where
   -- the key before a place is another than one without a label
@@ -29,6 +31,12 @@ module _ {K : Type 0} (same : K → K → Bool) (decides : (m n : K) → Decides
       → is_key before x ≡ false
   before_fresh f first label q None at x place fresh = refl
   before_fresh f first label q (Some p) at x place fresh = keys_differ x p (λ e. labelled same decides label q p x place.0 fresh (sym e))
+
+  -- the key at a place is another than one without a label
+  at_fresh : (f : ℕ → ℕ) (first : K → ℕ) (label : ℕ → Option K) (q : K) (before : Option ℕ) (at x : ℕ) → IsFamily same f first label end
+      → IsPlace f first label q before at → x < end → label x ≡ None → x ≢ at
+  at_fresh f first label q before at x h place low fresh e =
+      labelled same decides label q at x (place_stored same decides q before at h place (λ t. omega (arith, t, e, low))) fresh (sym e)
 
   -- the key before a place is in the list
   before_listed : (f : ℕ → ℕ) (first : K → ℕ) (label : ℕ → Option K) (q : K) (before : Option ℕ) (at : ℕ) → IsFamily same f first label end
@@ -38,35 +46,60 @@ module _ {K : Type 0} (same : K → K → Bool) (decides : (m n : K) → Decides
 
 -- ---- a pass is linked
 
+-- the node that is linked
+abbrev pub new_node : Label → Point → ℕ → ℕ → ℕ → ℕ → Node
+new_node name pixel at_a previous_a at_b previous_b = record {
+  name = name;
+  pixel = pixel;
+  next_of_segment = at_a;
+  previous_of_segment = previous_a;
+  next_of_pixel = at_b;
+  previous_of_pixel = previous_b;
+}
+
 -- what is linked has a free key and its places in both lists, and isn't linked yet
 pub record IsNew (old : List (Option Node)) (a : Label → ℕ) (b : Point → ℕ) (name : Label) (pixel : Point) (after : Option Point) (x : ℕ)
-    (before_a : Option ℕ) (at_a : ℕ) (before_b : Option ℕ) (at_b : ℕ) : Type 0 where
+    (before_a : Option ℕ) (at_a previous_a : ℕ) (before_b : Option ℕ) (at_b previous_b : ℕ) : Type 0 where
   pub low : x < end
   pub free : node_at old x ≡ None
   pub along : IsPlace (along_at old) a (name_at old) name before_a at_a
   pub across : IsPlace (across_at old) b (pixel_at old) pixel before_b at_b
+  pub back_along : key_of previous_a ≡ before_a
+  pub back_across : key_of previous_b ≡ before_b
   pub behind : IsThrough (pixel_at old) after before_a
   pub lesser : IsLesser (name_at old) name before_b
   pub greater : IsGreaterOf (name_at old) name at_b
   pub fresh : has_pixel (pixels_from old (a name)) pixel ≡ false
 
 module _ (old new : List (Option Node)) (a a' : Label → ℕ) (b b' : Point → ℕ) (name : Label) (pixel : Point) (after : Option Point) (x : ℕ)
-    (before_a : Option ℕ) (at_a : ℕ) (before_b : Option ℕ) (at_b : ℕ) (filed : AreFiled old a b)
-    (w : IsNew old a b name pixel after x before_a at_a before_b at_b)
-    (c : Relinks old new a a' b b' name pixel x (Some (record { name = name; pixel = pixel; next_of_segment = at_a; next_of_pixel = at_b })) before_a x before_b x) where
+    (before_a : Option ℕ) (at_a previous_a : ℕ) (before_b : Option ℕ) (at_b previous_b : ℕ)
+    (filed : AreFiled old a b) (w : IsNew old a b name pixel after x before_a at_a previous_a before_b at_b previous_b)
+    (c : Relinks old new a a' b b' name pixel x (Some (new_node name pixel at_a previous_a at_b previous_b)) before_a x at_a x before_b x at_b x)
+    (d : HasLinks new x (Some (new_node name pixel at_a previous_a at_b previous_b)) before_a x at_a x before_b x at_b x) where
   -- ---- the segment's list
 
   unnamed : name_at old x ≡ None
   unnamed = ap name_of w.free
 
+  not_the_end : x ≢ end
+  not_the_end e = omega (arith, e, w.low)
+
   unplaced : pixel_at old x ≡ None
   unplaced = ap pixel_of w.free
 
+  along_there : along_at new x ≡ at_a
+  along_there = d.along ∙ ap (λ t. cond t x at_a) (before_fresh label_eq label_decides (along_at old) a (name_at old) name before_a at_a x w.along unnamed)
+
   put_along : IsChanged label_eq (along_at old) a end (along_at new) a' (name_at new) end name (put_key before_a x (way (along_at old) end (a name)))
   put_along =
-      place_put label_eq label_decides name before_a at_a x filed.along w.along w.low unnamed
-      (c.along_there ∙ ap (λ t. cond t x at_a) (before_fresh label_eq label_decides (along_at old) a (name_at old) name before_a at_a x w.along unnamed))
-      c.along c.name_there c.names
+      place_put label_eq label_decides name before_a at_a x filed.along w.along w.low unnamed along_there c.along c.name_there c.names
+
+  put_back_along : LinksBack (along_at new) a' (name_at new) (back_along_at new)
+  put_back_along =
+      back_put label_eq label_decides (back_along_at old) (back_along_at new) name before_a at_a x previous_a filed.along filed.back_along w.along w.low unnamed along_there w.back_along
+      (d.back_along not_the_end
+      ∙ ap (λ t. cond t x previous_a) (keys_differ x at_a (at_fresh label_eq label_decides (along_at old) a (name_at old) name before_a at_a x filed.along w.along w.low unnamed)))
+      c.along c.back_along c.name_there c.names
 
   -- the values of the ways that were there
   pixels_stay : (n : Label) → listed (pixel_at new) (way (along_at old) end (a n)) ≡ pixels_from old (a n)
@@ -92,11 +125,19 @@ module _ (old new : List (Option Node)) (a a' : Label → ℕ) (b b' : Point →
 
   -- ---- the pixel's list
 
+  across_there : across_at new x ≡ at_b
+  across_there = d.across ∙ ap (λ t. cond t x at_b) (before_fresh point_eq point_decides (across_at old) b (pixel_at old) pixel before_b at_b x w.across unplaced)
+
   put_across : IsChanged point_eq (across_at old) b end (across_at new) b' (pixel_at new) end pixel (put_key before_b x (way (across_at old) end (b pixel)))
   put_across =
-      place_put point_eq point_decides pixel before_b at_b x filed.across w.across w.low unplaced
-      (c.across_there ∙ ap (λ t. cond t x at_b) (before_fresh point_eq point_decides (across_at old) b (pixel_at old) pixel before_b at_b x w.across unplaced))
-      c.across c.pixel_there c.pixels
+      place_put point_eq point_decides pixel before_b at_b x filed.across w.across w.low unplaced across_there c.across c.pixel_there c.pixels
+
+  put_back_across : LinksBack (across_at new) b' (pixel_at new) (back_across_at new)
+  put_back_across =
+      back_put point_eq point_decides (back_across_at old) (back_across_at new) pixel before_b at_b x previous_b filed.across filed.back_across w.across w.low unplaced across_there w.back_across
+      (d.back_across not_the_end
+      ∙ ap (λ t. cond t x previous_b) (keys_differ x at_b (at_fresh point_eq point_decides (across_at old) b (pixel_at old) pixel before_b at_b x filed.across w.across w.low unplaced)))
+      c.across c.back_across c.pixel_there c.pixels
 
   names_stay : (p : Point) → listed (name_at new) (way (across_at old) end (b p)) ≡ names_from old (b p)
   names_stay p =
@@ -130,6 +171,8 @@ module _ (old new : List (Option Node)) (a a' : Label → ℕ) (b b' : Point →
     filed = record {
       along = put_along.family;
       across = put_across.family;
+      back_along = put_back_along;
+      back_across = put_back_across;
       linked = linked_more name pixel after filed.linked w.fresh segment_put segments_put pixel_here pixels_put;
     };
     segment = segment_put;
@@ -149,14 +192,24 @@ pub record AreShorter (old new : List (Option Node)) (a a' : Label → ℕ) (b b
   pub pixels : (p : Point) → point_eq p pixel ≡ false → names_from new (b' p) ≡ names_from old (b p)
 
 module _ (old new : List (Option Node)) (a a' : Label → ℕ) (b b' : Point → ℕ) (name : Label) (pixel : Point) (y : ℕ)
-    (before_a before_b : Option ℕ) (filed : AreFiled old a b) (named : name_at old y ≡ Some name) (placed : pixel_at old y ≡ Some pixel)
+    (before_a : Option ℕ) (previous_a : ℕ) (before_b : Option ℕ) (previous_b : ℕ)
+    (filed : AreFiled old a b) (named : name_at old y ≡ Some name) (placed : pixel_at old y ≡ Some pixel)
     (along : IsPlace (along_at old) a (name_at old) name before_a y) (across : IsPlace (across_at old) b (pixel_at old) pixel before_b y)
-    (c : Relinks old new a a' b b' name pixel y None before_a (along_at old y) before_b (across_at old y)) where
+    (back_along : key_of previous_a ≡ before_a) (back_across : key_of previous_b ≡ before_b)
+    (c : Relinks old new a a' b b' name pixel y None before_a (along_at old y) (along_at old y) previous_a before_b (across_at old y) (across_at old y) previous_b) where
   taken_along : IsChanged label_eq (along_at old) a end (along_at new) a' (name_at new) end name (filter (λ k. not (k == y)) (way (along_at old) end (a name)))
   taken_along = place_taken label_eq label_decides name before_a y filed.along along named c.along c.name_there c.names
 
   taken_across : IsChanged point_eq (across_at old) b end (across_at new) b' (pixel_at new) end pixel (filter (λ k. not (k == y)) (way (across_at old) end (b pixel)))
   taken_across = place_taken point_eq point_decides pixel before_b y filed.across across placed c.across c.pixel_there c.pixels
+
+  taken_back_along : LinksBack (along_at new) a' (name_at new) (back_along_at new)
+  taken_back_along =
+      back_taken label_eq label_decides (back_along_at old) (back_along_at new) name before_a y previous_a filed.along filed.back_along along named back_along c.along c.back_along c.name_there c.names
+
+  taken_back_across : LinksBack (across_at new) b' (pixel_at new) (back_across_at new)
+  taken_back_across =
+      back_taken point_eq point_decides (back_across_at old) (back_across_at new) pixel before_b y previous_b filed.across filed.back_across across placed back_across c.across c.back_across c.pixel_there c.pixels
 
   -- the values of the ways that are left
   pixels_left : (n : Label) → pixels_from new (a' n) ≡ listed (pixel_at old) (way (along_at new) end (a' n))
@@ -193,6 +246,8 @@ module _ (old new : List (Option Node)) (a a' : Label → ℕ) (b b' : Point →
     filed = record {
       along = taken_along.family;
       across = taken_across.family;
+      back_along = taken_back_along;
+      back_across = taken_back_across;
       linked = linked_less name pixel filed.linked segment_taken segments_taken pixel_taken pixels_taken;
     };
     segment = segment_taken;

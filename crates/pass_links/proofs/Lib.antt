@@ -7,8 +7,9 @@ mod HeadLaws
 mod LinkedLaws
 mod PlaceLaws
 mod ValueLaws
-mod NodeLaws
 mod WalkLaws
+mod BackLaws
+mod NodeLaws
 mod SeekLaws
 mod FilingLaws
 mod SeenLaws

@@ -4,8 +4,7 @@
 use Rattle.std.proofs.Common.{◌≡◌, ◌≢◌, ap, sym, ◌∙◌, subst, ℕ, suc, ◌<◌, ◌≤◌, arith, Bool, true, false, not, cond, ◌&&◌, true≢false, List, ◌∷◌, length, Option, None, Some}
 use Rattle.std.specs.Prelude.{◌==◌, filter, is_some}
 use Rattle.std.specs.Bool.{Decides}
-use Rattle.pass_links.specs.Chain.{end, way, key_behind, has_key, is_of, IsFamily, listed}
-use Rattle.pass_links.specs.Seek.{IsPlace}
+use Rattle.pass_links.specs.Chain.{end, way, key_behind, has_key, is_of, IsFamily, listed, IsPlace}
 use Rattle.pass_links.specs.Links.{is_key, HasHeadRoom, KeepsHeadRoom}
 use Rattle.pass_links.proofs.FamilyLaws.{IsChanged, way_from, put_first, put_behind_key, take_first, take_behind}
 use Rattle.pass_links.proofs.ListedLaws.{listed_as}
@@ -40,7 +39,7 @@ module _ {K : Type 0} (same : K → K → Bool) (decides : (a b : K) → Decides
       set.starts label_at label_as
 
   -- no key comes behind itself
-  behind_other : {f : ℕ → ℕ} {first : K → ℕ} {label : ℕ → Option K} (q : K) (p y : ℕ) → IsFamily same f first label end
+  pub behind_other : {f : ℕ → ℕ} {first : K → ℕ} {label : ℕ → Option K} (q : K) (p y : ℕ) → IsFamily same f first label end
       → label p ≡ Some q → f p ≡ y → p ≢ y
   behind_other {f} q p y h of_p f_p e =
       let w = way_from same decides q p h of_p in

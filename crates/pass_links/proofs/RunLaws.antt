@@ -7,9 +7,10 @@ use Rattle.grid_core.specs.Vector.{point_eq}
 use Rattle.grid_core.specs.Name.{Label, label_eq}
 use Rattle.pass_links.specs.Passes.{PassLists, pixels_of, names_at, has_pixel, put_behind, linked_behind, put_run, run_behind, AreFresh, with_name}
 use Rattle.pass_links.specs.declared.node.Node.{Node}
+use Rattle.pass_links.specs.Chain.{IsPlace}
 use Rattle.pass_links.specs.Node.{along_at, name_at, pixel_at}
 use Rattle.pass_links.specs.Lists.{pixels_from, names_from}
-use Rattle.pass_links.specs.Seek.{IsPlace, IsThrough}
+use Rattle.pass_links.specs.Seek.{IsThrough}
 use Rattle.pass_links.specs.Filing.{AreFiled, AreLonger}
 use Rattle.pass_links.proofs.TestLaws.{itself, or_false, point_decides}
 use Rattle.pass_links.proofs.LinkedLaws.{has_linked, any_append}

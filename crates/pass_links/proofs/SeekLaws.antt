@@ -1,10 +1,9 @@
--- The steps of the walks that look for a place in a list.
+-- The steps of the walk that looks for a place in a pixel's list.
 use Rattle.std.specs.List.{AllByRecursion}
 use Rattle.std.proofs.lemmas.Bool.{cases_eq}
-use Rattle.std.proofs.lemmas.Cmp.{tied_itself}
 use Rattle.std.specs.List.Sorted.{IsStrictlySortedBy}
 use Rattle.std.specs.Ordering.{ordering_reverse}
-use Rattle.std.proofs.Common.{Less, Equal, Greater, Ordering, is_eq, is_lt, ◌≡◌, ◌≢◌, ℕ, ◌<◌, true, false, ◌||◌, true≢false, refl, ap, sym, ◌∙◌, subst, inl, inr, arith, List, [], ◌∷◌, length, Option, None, Some}
+use Rattle.std.proofs.Common.{Less, Equal, Greater, Ordering, is_eq, is_lt, ◌≡◌, ℕ, true, false, ◌||◌, true≢false, refl, ap, sym, ◌∙◌, subst, inl, inr, arith, List, [], ◌∷◌, Option, None, Some}
 use Rattle.std.specs.Prelude.{◌⊎◌}
 use Rattle.grid_core.specs.declared.point.Point.{Point}
 use Rattle.grid_core.specs.Name.{Label, label_cmp, label_eq}
@@ -12,21 +11,14 @@ use Rattle.grid_core.specs.Vector.{point_eq}
 use Rattle.grid_core.proofs.Order.{label_total, label_exact}
 use Rattle.pass_links.specs.declared.node.Node.{Node}
 use Rattle.pass_links.specs.declared.heads.Head.{Head}
-use Rattle.pass_links.specs.Chain.{end, way, IsWay, IsFamily, is_of, has_key}
+use Rattle.pass_links.specs.Chain.{end, way, IsWay, IsFamily, is_of, IsPlace}
 use Rattle.pass_links.specs.Node.{across_of, name_of, pixel_of, node_at, along_at, across_at, name_at, pixel_at}
 use Rattle.pass_links.specs.Lists.{names_from, IsEndFree}
 use Rattle.pass_links.specs.Passes.{has_name}
-use Rattle.pass_links.specs.Heads.{segment_start, pixel_start}
-use Rattle.pass_links.specs.Seek.{IsPlace, IsLesser, IsAtName}
+use Rattle.pass_links.specs.Heads.{pixel_start}
+use Rattle.pass_links.specs.Seek.{IsLesser, IsAtName}
 use Rattle.pass_links.proofs.WalkLaws.{Steps, across_step, across_done, not_end, place_stored}
-use Rattle.pass_links.proofs.ChainLaws.{way_end, way_next}
-use Rattle.pass_links.proofs.TestLaws.{or_false, is_equal, keys_differ, label_decides, point_decides}
-
--- the key is still to come
-pub record SeeksAlong (slots : List (Option Node)) (segments : List (Head Label)) (name : Label) (key : ℕ) (before : Option ℕ) (at : ℕ) : Type 0 where
-  pub place : IsPlace (along_at slots) (segment_start segments) (name_at slots) name before at
-  pub whole : IsWay (along_at slots) at (way (along_at slots) end at)
-  pub comes : has_key (way (along_at slots) end at) key ≡ true
+use Rattle.pass_links.proofs.TestLaws.{or_false, is_equal, point_decides}
 
 pub free_of : (slots : List (Option Node)) (first : Label → ℕ) → IsFamily label_eq (along_at slots) first (name_at slots) end → IsEndFree slots
 free_of slots first lists = unnamed (node_at slots end) refl
@@ -41,46 +33,6 @@ free_across slots first lists = unplaced (node_at slots end) refl
     unplaced : (o : Option Node) → node_at slots end ≡ o → o ≡ None
     unplaced None e = refl
     unplaced (Some node) e = absurd (omega (arith, lists.below end node.pixel (ap pixel_of e)))
-
-module _ (slots : List (Option Node)) (segments : List (Head Label)) (name : Label) (key : ℕ) (lists : IsFamily label_eq (along_at slots) (segment_start segments) (name_at slots) end) where
-  -- the walk begins
-  pub along_begun : (at : ℕ) → at ≡ segment_start segments name → name_at slots key ≡ Some name → SeeksAlong slots segments name key None at
-  along_begun at e stored =
-      subst (SeeksAlong slots segments name key None) (sym e)
-      (record {
-        place = refl;
-        whole = lists.whole name;
-        comes = lists.exact name key ∙ ap (is_of label_eq name) stored ∙ ap is_eq (tied_itself label_total name);
-      })
-
-  -- there is a node, as the key is still to come
-  pub along_stored : (before : Option ℕ) (at : ℕ) → SeeksAlong slots segments name key before at → (at ≢ end) × (name_at slots at ≡ Some name)
-  along_stored before at h =
-      let apart : at ≢ end = λ e.
-      true≢false (sym h.comes ∙ ap (λ k. has_key (way (along_at slots) end k) key) e ∙ ap (λ ks. has_key ks key) (way_end (along_at slots) end)) in
-      (apart, place_stored label_eq label_decides name before at lists h.place apart)
-
-  -- another node is passed
-  pub along_passed : (before : Option ℕ) (at next : ℕ) → SeeksAlong slots segments name key before at → at ≢ key → along_at slots at ≡ next
-      → SeeksAlong slots segments name key (Some at) next
-  along_passed before at next h apart e =
-      let s = along_stored before at h in
-      let n = way_next (along_at slots) end at h.whole s.0 in
-      subst (SeeksAlong slots segments name key (Some at)) e
-      (record {
-        place = (s.1, refl);
-        whole = n.2;
-        comes =
-            ap (λ b. b || has_key (way (along_at slots) end (along_at slots at)) key) (sym (keys_differ key at (λ k. apart (sym k))))
-            ∙ ap (λ ks. has_key ks key) (sym n.0) ∙ h.comes;
-      })
-
-  -- the way left gets shorter
-  pub along_shorter : (before : Option ℕ) (at next : ℕ) → SeeksAlong slots segments name key before at → along_at slots at ≡ next
-      → length (way (along_at slots) end next) < length (way (along_at slots) end at)
-  along_shorter before at next h e =
-      let n = way_next (along_at slots) end at h.whole (along_stored before at h).0 in
-      omega (arith, ap (λ k. length (way (along_at slots) end k)) e, ap length n.0)
 
 -- the names that were passed are lesser, and the name is still to come if it is in the list
 pub record SeeksAcross (slots : List (Option Node)) (pixels : List (Head Point)) (pixel : Point) (name : Label) (before : Option ℕ) (at : ℕ) : Type 0 where

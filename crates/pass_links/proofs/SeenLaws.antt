@@ -1,6 +1,7 @@
 -- What contracts see of the nodes and the heads.
 use Rattle.std.proofs.Common.{◌≡◌, refl, ap, sym, ◌∙◌, subst, ℕ, arith, List, [], Option}
 use Rattle.std.specs.List.Sorted.{IsStrictlySortedBy}
+use Rattle.std.proofs.lemmas.Option.{none-some}
 use Rattle.grid_core.specs.declared.point.Point.{Point}
 use Rattle.grid_core.specs.Vector.{point_cmp, point_eq}
 use Rattle.grid_core.specs.Name.{Label, label_cmp, label_eq}
@@ -60,6 +61,8 @@ none_filed : AreFiled [] (segment_start []) (pixel_start [])
 none_filed = record {
   along = family_empty label_eq label_decides (along_at []) (segment_start []) (name_at []) end (λ n. refl) (λ k. refl);
   across = family_empty point_eq point_decides (across_at []) (pixel_start []) (pixel_at []) end (λ p. refl) (λ k. refl);
+  back_along = λ k n e. absurd (none-some n e);
+  back_across = λ k p e. absurd (none-some p e);
   linked = linked_empty no_pixels no_names;
 }
 

@@ -7,10 +7,9 @@ use Rattle.std.proofs.lemmas.Bool.{cases_eq}
 use Rattle.grid_core.specs.declared.point.Point.{Point}
 use Rattle.grid_core.specs.Name.{Label}
 use Rattle.pass_links.specs.declared.node.Node.{Node}
-use Rattle.pass_links.specs.Chain.{end, way, IsWay, IsFamily, listed}
+use Rattle.pass_links.specs.Chain.{end, way, IsWay, IsFamily, listed, IsPlace}
 use Rattle.pass_links.specs.Node.{along_of, across_of, name_of, pixel_of, node_at, along_at, across_at, name_at, pixel_at}
 use Rattle.pass_links.specs.Lists.{pixels_from, names_from, IsEndFree}
-use Rattle.pass_links.specs.Seek.{IsPlace}
 use Rattle.pass_links.proofs.ChainLaws.{way_end, way_next}
 use Rattle.pass_links.proofs.FamilyLaws.{first_stored, next_stored}
 use Rattle.pass_links.proofs.ListedLaws.{listed_first}
@@ -98,7 +97,7 @@ module _ (slots : List (Option Node)) where
 -- ---- a place in a list of a family
 
 module _ {K : Type 0} (same : K → K → Bool) (decides : (a b : K) → Decides (same a b) (a ≡ b)) where
-  ended : (o p : ℕ) {A : Type 0} → o ≡ p → o ≢ end → (p ≡ end) ⊎ A → A
+  pub ended : (o p : ℕ) {A : Type 0} → o ≡ p → o ≢ end → (p ≡ end) ⊎ A → A
   ended o p e apart (inl h) = absurd (apart (e ∙ h))
   ended o p e apart (inr a) = a
 

@@ -40,6 +40,24 @@ pub record IsFamily {K : Type 0} (same : K → K → Bool) (f : ℕ → ℕ) (fi
   pub exact : (q : K) (k : ℕ) → has_key (way f n (first q)) k ≡ is_of same q (label k)
   pub below : (k : ℕ) (q : K) → label k ≡ Some q → k < n
 
+-- the key `at` comes right behind `before` in the list of q, or first in it where there is none
+abbrev pub IsPlace : {K : Type 0} → (ℕ → ℕ) → (K → ℕ) → (ℕ → Option K) → K → Option ℕ → ℕ → Type 0
+IsPlace f first label q None at = first q ≡ at
+IsPlace f first label q (Some before) at = (label before ≡ Some q) × (f before ≡ at)
+
+-- the key that a link leads to; none at the end
+abbrev pub key_of : ℕ → Option ℕ
+key_of link = cond (link == end) None (Some link)
+
+-- the link to a key; to the end where there is none
+abbrev pub link_to : Option ℕ → ℕ
+link_to None = end
+link_to (Some key) = key
+
+-- the link back of each key in a list leads to the key before it, or to the end where it is the first
+abbrev pub LinksBack : {K : Type 0} → (ℕ → ℕ) → (K → ℕ) → (ℕ → Option K) → (ℕ → ℕ) → Type 0
+LinksBack {K} f first label back = (k : ℕ) (q : K) → label k ≡ Some q → IsPlace f first label q (key_of (back k)) k
+
 -- the values of the keys, in their order
 abbrev pub listed : {V : Type 0} → (ℕ → Option V) → List ℕ → List V
 listed v ks = filter_map v ks

@@ -1,4 +1,4 @@
--- Places in the lists of a family, and what a search for one finds.
+-- What a search for a place in a list finds.
 use Rattle.std.specs.Prelude.{◌≡◌, ℕ, ◌⊎◌, List, Option, None, Some}
 use Rattle.std.specs.declared.cmp.Ordering.{Ordering}
 use Rattle.std.specs.declared.cmp.Ordering.TheVariants.{Less}
@@ -9,11 +9,6 @@ use Rattle.pass_links.specs.declared.seek.Before.{Before}
 use Rattle.pass_links.specs.declared.seek.Before.TheVariants as before
 use Rattle.pass_links.specs.Chain.{end}
 use Rattle.pass_links.specs.Heads.{IsHeadPlace}
-
--- the key `at` comes right behind `before` in the list of q, or first in it where there is none
-abbrev pub IsPlace : {K : Type 0} → (ℕ → ℕ) → (K → ℕ) → (ℕ → Option K) → K → Option ℕ → ℕ → Type 0
-IsPlace f first label q None at = first q ≡ at
-IsPlace f first label q (Some before) at = (label before ≡ Some q) × (f before ≡ at)
 
 -- the key of the node that comes before; none where the list's head does
 abbrev pub node_before : Before → Option ℕ

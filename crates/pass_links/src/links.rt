@@ -1,22 +1,23 @@
-//! What comes behind a node, or first, in the lists of segments and pixels; and a node at its
-//! place in both.
+//! What comes behind a node, or first, in the lists of segments and pixels; a node put at its place
+//! in both; and a node taken out of one.
 ghost use Rattle.std.specs.Prelude.{◌≡◌, ◌+◌, ◌<◌, ◌≤◌, IfSome, IsSome, Option, Some, false};
 ghost use Rattle.std.specs.Vec.{vec_len, vec_capacity};
-ghost use Rattle.grid_core.specs.Name.{label_cmp};
-ghost use Rattle.grid_core.specs.Vector.{point_cmp};
+ghost use Rattle.grid_core.specs.Name.{label_cmp, label_eq};
+ghost use Rattle.grid_core.specs.Vector.{point_cmp, point_eq};
 ghost use Rattle.grid_core.specs.declared.point.Point.{Point};
 ghost use Rattle.pass_links.specs.Passes.{has_pixel};
-ghost use Rattle.pass_links.specs.Node.{along_at, name_at, pixel_at};
+ghost use Rattle.pass_links.specs.Chain.{end, IsFamily, IsPlace, LinksBack};
+ghost use Rattle.pass_links.specs.Node.{along_at, across_at, back_along_at, back_across_at, name_at, pixel_at};
 ghost use Rattle.pass_links.specs.Lists.{pixels_from};
 ghost use Rattle.pass_links.specs.Heads.{Rise, segment_start, pixel_start};
 ghost use Rattle.pass_links.specs.Store.{stored_at};
-ghost use Rattle.pass_links.specs.Links.{PointsAlong, PointsAcross, HasHeadRoom, KeepsHeadRoom};
-ghost use Rattle.pass_links.specs.Seek.{IsPlace, IsThrough, node_before, IsHeadBefore};
+ghost use Rattle.pass_links.specs.Links.{PointsAlong, PointsAcross, TakesAlong, TakesAcross, HasHeadRoom, KeepsHeadRoom};
+ghost use Rattle.pass_links.specs.Seek.{IsThrough, node_before, IsHeadBefore};
 ghost use Rattle.pass_links.specs.Filing.{AreFiled, AreLonger};
 
 use crate::heads::{Head, set_first};
-use crate::node::{Node, set_across, set_along};
-use crate::seek::{Before, Seek, seek_across};
+use crate::node::{Node, set_across, set_along, set_back_across, set_back_along};
+use crate::seek::{Before, Seek, before_node, seek_across};
 use crate::store::Store;
 use grid_core::{Name, Point};
 
@@ -121,9 +122,63 @@ pub(crate) fn link_at(
         name,
         pixel,
         next_of_segment: place.at,
+        previous_of_segment: place.before.link(),
         next_of_pixel: across.at,
+        previous_of_pixel: across.before.link(),
     });
     point_along(nodes, segments, name, place.before, key);
+    set_back_along(nodes, place.at, key);
     point_across(nodes, pixels, pixel, across.before, key);
+    set_back_across(nodes, across.at, key);
     key
+}
+
+/// Takes the node at `key` out of its segment's list and out of the store, and gives it. Its
+/// neighbours in its pixel's list are as they were. Takes no memory.
+pub(crate) fn take_along(nodes: &mut Store<Node>, segments: &mut Vec<Head<Name>>, key: u32) -> Node
+    requires by_name { Rise label_cmp segments.old.items }
+    requires lists { IsFamily label_eq (along_at nodes.old.slots)
+        (segment_start segments.old.items) (name_at nodes.old.slots) end }
+    requires back { LinksBack (along_at nodes.old.slots) (segment_start segments.old.items)
+        (name_at nodes.old.slots) (back_along_at nodes.old.slots) }
+    requires stored { IsSome (stored_at nodes.old.slots key) }
+    ensures node { stored_at nodes.old.slots key ≡ Some result }
+    ensures takes { TakesAlong nodes.old.slots nodes.new.slots
+        (segment_start segments.old.items) (segment_start segments.new.items) key result }
+    ensures by_name { Rise label_cmp segments.new.items }
+    ensures room { nodes.new.room ≡ nodes.old.room + 1 }
+    ensures len { vec_len segments.new ≤ vec_len segments.old }
+    ensures capacity { vec_capacity segments.new ≡ vec_capacity segments.old }
+{
+    let node = *nodes.value(key);
+    nodes.remove(key);
+    let before = before_node(segments, node.name, node.previous_of_segment);
+    point_along(nodes, segments, node.name, before, node.next_of_segment);
+    set_back_along(nodes, node.next_of_segment, node.previous_of_segment);
+    node
+}
+
+/// Takes the node at `key` out of its pixel's list and out of the store, and gives it. Its
+/// neighbours in its segment's list are as they were. Takes no memory.
+pub(crate) fn take_across(nodes: &mut Store<Node>, pixels: &mut Vec<Head<Point>>, key: u32) -> Node
+    requires by_pixel { Rise point_cmp pixels.old.items }
+    requires lists { IsFamily point_eq (across_at nodes.old.slots)
+        (pixel_start pixels.old.items) (pixel_at nodes.old.slots) end }
+    requires back { LinksBack (across_at nodes.old.slots) (pixel_start pixels.old.items)
+        (pixel_at nodes.old.slots) (back_across_at nodes.old.slots) }
+    requires stored { IsSome (stored_at nodes.old.slots key) }
+    ensures node { stored_at nodes.old.slots key ≡ Some result }
+    ensures takes { TakesAcross nodes.old.slots nodes.new.slots
+        (pixel_start pixels.old.items) (pixel_start pixels.new.items) key result }
+    ensures by_pixel { Rise point_cmp pixels.new.items }
+    ensures room { nodes.new.room ≡ nodes.old.room + 1 }
+    ensures len { vec_len pixels.new ≤ vec_len pixels.old }
+    ensures capacity { vec_capacity pixels.new ≡ vec_capacity pixels.old }
+{
+    let node = *nodes.value(key);
+    nodes.remove(key);
+    let before = before_node(pixels, node.pixel, node.previous_of_pixel);
+    point_across(nodes, pixels, node.pixel, before, node.next_of_pixel);
+    set_back_across(nodes, node.next_of_pixel, node.previous_of_pixel);
+    node
 }

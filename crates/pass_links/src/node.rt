@@ -1,9 +1,10 @@
 //! One pass as a node of two lists, and the links from node to node.
-ghost use Rattle.std.specs.Prelude.{◌≡◌, IsSome};
+ghost use Rattle.std.specs.Prelude.{◌≡◌, IsSome, IfSome};
 ghost use Rattle.pass_links.specs.Store.{stored_at};
-ghost use Rattle.pass_links.specs.Node.{SetsAlong, SetsAcross};
+ghost use Rattle.pass_links.specs.Chain.{key_of};
+ghost use Rattle.pass_links.specs.Node.{SetsAlong, SetsAcross, SetsBackAlong, SetsBackAcross};
 
-use crate::store::Store;
+use crate::store::{END, Store};
 use grid_core::{Name, Point};
 
 /// One pass of a segment through a hot pixel: a node of the segment's list and of the pixel's.
@@ -15,8 +16,12 @@ pub(crate) struct Node {
     pub(crate) pixel: Point,
     /// The key of the next node in the segment's list, or `END`.
     pub(crate) next_of_segment: u32,
+    /// The key of the node before it in the segment's list, or `END`.
+    pub(crate) previous_of_segment: u32,
     /// The key of the next node in the pixel's list, or `END`.
     pub(crate) next_of_pixel: u32,
+    /// The key of the node before it in the pixel's list, or `END`.
+    pub(crate) previous_of_pixel: u32,
 }
 
 /// Sets what comes behind the node at `key` in its segment's list.
@@ -46,6 +51,44 @@ pub(crate) fn set_across(nodes: &mut Store<Node>, key: u32, next: u32)
         key,
         Node {
             next_of_pixel: next,
+            ..node
+        },
+    );
+}
+
+/// Sets what comes before the node at `key`, if it isn't `END`, in its segment's list.
+pub(crate) fn set_back_along(nodes: &mut Store<Node>, key: u32, previous: u32)
+    requires { IfSome (key_of key) (λ k. IsSome (stored_at nodes.old.slots k)) }
+    ensures links { SetsBackAlong nodes.old.slots nodes.new.slots key previous }
+    ensures room { nodes.new.room ≡ nodes.old.room }
+{
+    if key == END {
+        return;
+    }
+    let node = *nodes.value(key);
+    nodes.set(
+        key,
+        Node {
+            previous_of_segment: previous,
+            ..node
+        },
+    );
+}
+
+/// Sets what comes before the node at `key`, if it isn't `END`, in its pixel's list.
+pub(crate) fn set_back_across(nodes: &mut Store<Node>, key: u32, previous: u32)
+    requires { IfSome (key_of key) (λ k. IsSome (stored_at nodes.old.slots k)) }
+    ensures links { SetsBackAcross nodes.old.slots nodes.new.slots key previous }
+    ensures room { nodes.new.room ≡ nodes.old.room }
+{
+    if key == END {
+        return;
+    }
+    let node = *nodes.value(key);
+    nodes.set(
+        key,
+        Node {
+            previous_of_pixel: previous,
             ..node
         },
     );

@@ -5,15 +5,14 @@ ghost use Rattle.grid_core.specs.Vector.{point_eq};
 ghost use Rattle.grid_core.specs.declared.point.Point.{Point};
 ghost use Rattle.pass_links.specs.Passes.{pixels_of, names_at, has_pixel, AreLinked};
 ghost use Rattle.pass_links.specs.Passes.{linked_behind, run_behind, AreFresh, with_name, without_pixel, without_name};
-ghost use Rattle.pass_links.specs.Filing.{Unlinks};
 
-use crate::heads::{Head, find};
-use crate::links::{link_at, point_across, point_along};
+use crate::heads::{Head, find, set_first};
+use crate::links::{link_at, take_across, take_along};
 use crate::lists::{Across, Along};
-use crate::node::Node;
+use crate::node::{Node, set_back_across, set_back_along};
 use crate::room::{copied, room_left};
-use crate::seek::{Before, Seek, before_along, seek_across, seek_behind};
-use crate::store::Store;
+use crate::seek::{Before, Seek, seek_across, seek_behind};
+use crate::store::{END, Store};
 use grid_core::{Memory, Name, Point};
 use std::alloc::Global;
 use std::marker::Model;
@@ -202,9 +201,18 @@ impl Passes {
             → names_at self.new p ≡ names_at self.old p }
         ensures spare { self.old.spare ≤ self.new.spare }
     {
-        while let Some(name) = self.across(pixel).next() {
-            self.unlink(name, pixel);
+        let head = find(&self.pixels, pixel);
+        if head.first == END {
+            return;
         }
+        let mut at = head.first;
+        while at != END {
+            let node = take_along(&mut self.nodes, &mut self.segments, at);
+            set_back_across(&mut self.nodes, node.next_of_pixel, END);
+            at = node.next_of_pixel;
+        }
+        set_first(&mut self.pixels, pixel, head.place, END);
+        self.spare = room_left(&self.nodes, &self.segments, &self.pixels);
     }
 
     /// Unlinks all passes of this segment. All others stay in their order. Takes no memory.
@@ -216,35 +224,17 @@ impl Passes {
             → names_at self.new p ≡ without_name name (names_at self.old p) }
         ensures spare { self.old.spare ≤ self.new.spare }
     {
-        while let Some(pixel) = self.along(name).next() {
-            self.unlink(name, pixel);
+        let head = find(&self.segments, name);
+        if head.first == END {
+            return;
         }
-    }
-
-    /// Unlinks the pass of this segment through this pixel. All others stay in their order.
-    /// Takes no memory.
-    fn unlink(&mut self, name: Name, pixel: Point)
-        requires { IsTrue (has_pixel (pixels_of self.old name) pixel) }
-        ensures { Unlinks name pixel self.old self.new }
-    {
-        let across = seek_across(&self.nodes, &self.pixels, pixel, name);
-        let before = before_along(&self.nodes, &self.segments, name, across.at);
-        let node = *self.nodes.value(across.at);
-        self.nodes.remove(across.at);
-        point_along(
-            &mut self.nodes,
-            &mut self.segments,
-            name,
-            before,
-            node.next_of_segment,
-        );
-        point_across(
-            &mut self.nodes,
-            &mut self.pixels,
-            pixel,
-            across.before,
-            node.next_of_pixel,
-        );
+        let mut at = head.first;
+        while at != END {
+            let node = take_across(&mut self.nodes, &mut self.pixels, at);
+            set_back_along(&mut self.nodes, node.next_of_segment, END);
+            at = node.next_of_segment;
+        }
+        set_first(&mut self.segments, name, head.place, END);
         self.spare = room_left(&self.nodes, &self.segments, &self.pixels);
     }
 

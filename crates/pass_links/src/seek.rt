@@ -4,16 +4,17 @@ ghost use Rattle.std.specs.List.Sorted.{IsStrictlySortedBy};
 ghost use Rattle.grid_core.specs.Name.{label_cmp, label_eq};
 ghost use Rattle.grid_core.specs.Vector.{point_cmp, point_eq};
 ghost use Rattle.pass_links.specs.Passes.{has_pixel, has_name};
-ghost use Rattle.pass_links.specs.Chain.{end, IsFamily, is_of};
+ghost use Rattle.pass_links.specs.Chain.{end, IsFamily, is_of, IsPlace, key_of, link_to};
 ghost use Rattle.pass_links.specs.Node.{along_at, across_at, name_at, pixel_at};
 ghost use Rattle.pass_links.specs.Heads.{Rise, segment_start, pixel_start};
 ghost use Rattle.pass_links.specs.Lists.{pixels_from, names_from};
-ghost use Rattle.pass_links.specs.Seek.{IsPlace, IsLesser, IsAtName, IsThrough, node_before, IsHeadBefore};
+ghost use Rattle.pass_links.specs.Seek.{IsLesser, IsAtName, IsThrough, node_before, IsHeadBefore};
 ghost use Rattle.pass_links.specs.Filing.{AreFiled};
 
 use crate::heads::{Head, find};
 use crate::node::Node;
-use crate::store::Store;
+use crate::owner::Owner;
+use crate::store::{END, Store};
 use grid_core::{Name, Point};
 
 /// What comes before a place in a list, and has the link to it.
@@ -34,29 +35,28 @@ pub(crate) struct Seek {
     pub(crate) at: u32,
 }
 
-/// What comes before the node at `key` in the list of its segment.
-pub(crate) fn before_along(
-    nodes: &Store<Node>,
-    segments: &[Head<Name>],
-    name: Name,
-    key: u32,
-) -> Before
-    requires by_name { Rise label_cmp segments.now }
-    requires lists { IsFamily label_eq (along_at nodes.now.slots) (segment_start segments.now)
-        (name_at nodes.now.slots) end }
-    requires stored { name_at nodes.now.slots key ≡ Some name }
-    ensures place { IsPlace (along_at nodes.now.slots) (segment_start segments.now)
-        (name_at nodes.now.slots) name (node_before result) key }
-    ensures head { IsHeadBefore label_cmp segments.now name result }
-{
-    let head = find(segments, name);
-    let mut before = Before::Head(head.place);
-    let mut at = head.first;
-    while at != key {
-        before = Before::Node(at);
-        at = nodes.value(at).next_of_segment;
+impl Before {
+    /// The link to it: the key of the node, or `END` for the list's head.
+    pub(crate) fn link(self) -> u32
+        ensures { result ≡ link_to (node_before self) }
+    {
+        match self {
+            Before::Head(_) => END,
+            Before::Node(key) => key,
+        }
     }
-    before
+}
+
+/// What comes before a node with this link back, in the list of this segment or pixel.
+pub(crate) fn before_node<K: Owner>(heads: &[Head<K>], of: K, previous: u32) -> Before
+    requires { Rise K.cmp heads.now }
+    ensures node { node_before result ≡ key_of previous }
+    ensures head { IsHeadBefore K.cmp heads.now of result }
+{
+    if previous == END {
+        return Before::Head(find(heads, of).place);
+    }
+    Before::Node(previous)
 }
 
 /// The first node in the pixel's list whose name isn't less than this one, or the list's end.

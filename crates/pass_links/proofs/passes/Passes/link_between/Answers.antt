@@ -4,10 +4,11 @@ use Rattle.std.specs.Prelude.{IfSome}
 use Rattle.grid_core.specs.Name.{Label}
 use Rattle.grid_core.specs.declared.point.Point.{Point}
 use Rattle.pass_links.specs.Passes.{PassLists, pixels_of, names_at, has_pixel, linked_behind, with_name}
+use Rattle.pass_links.specs.Chain.{IsPlace}
 use Rattle.pass_links.specs.Node.{name_at, along_at}
 use Rattle.pass_links.specs.Heads.{segment_start, pixel_start}
 use Rattle.pass_links.specs.Lists.{pixels_from, names_from}
-use Rattle.pass_links.specs.Seek.{IsPlace, node_before}
+use Rattle.pass_links.specs.Seek.{node_before}
 use Rattle.pass_links.specs.Filing.{AreLonger}
 use Rattle.pass_links.proofs.SeenLaws.{seen, seen_pixels, seen_names}
 use Rattle.pass_links.proofs.passes.Passes.link_between.Goals as goal

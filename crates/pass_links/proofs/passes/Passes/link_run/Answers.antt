@@ -4,10 +4,11 @@ use Rattle.std.specs.Prelude.{IfSome, pos}
 use Rattle.std.proofs.lemmas.List.{take_more, drop_more, take_all, drop_all}
 use Rattle.grid_core.specs.Name.{label_cmp}
 use Rattle.pass_links.specs.Passes.{PassLists, has_pixel}
+use Rattle.pass_links.specs.Chain.{IsPlace}
 use Rattle.pass_links.specs.Node.{name_at, along_at}
 use Rattle.pass_links.specs.Heads.{segment_start, pixel_start}
 use Rattle.pass_links.specs.Lists.{pixels_from}
-use Rattle.pass_links.specs.Seek.{IsPlace, IsHeadBefore, node_before}
+use Rattle.pass_links.specs.Seek.{IsHeadBefore, node_before}
 use Rattle.pass_links.proofs.SeenLaws.{seen, seen_pixels, seen_names}
 use Rattle.pass_links.proofs.RunLaws.{run_begun, run_more, run_linked}
 use Rattle.pass_links.proofs.passes.Passes.link_run.Goals as goal

@@ -1,10 +1,23 @@
-use Rattle.std.proofs.Common.{length}
-use Rattle.pass_links.specs.Passes.{pixels_of}
+use Rattle.std.proofs.Common.{◌≢◌, ◌≤◌, ◌-◌, min, length}
+use Rattle.std.specs.Vec.{vec_len, vec_capacity}
+use Rattle.grid_core.specs.Name.{label_cmp}
+use Rattle.grid_core.specs.Vector.{point_cmp}
+use Rattle.pass_links.specs.Chain.{end}
+use Rattle.pass_links.specs.Lists.{pixels_from}
+use Rattle.pass_links.specs.Heads.{Rise, IsHeadPlace, segment_start, pixel_start}
 use Rattle.pass_links.proofs.UnlinkLaws.{UnlinksSegment}
 use Rattle.pass_links.proofs.passes.Passes.unlink_segment.Given as goal
 
-abbrev pub invariant-loop-pixel : goal.invariant-loop-pixel
-invariant-loop-pixel l = UnlinksSegment l.name l.fn.self l.self
+abbrev pub invariant-loop-at : goal.invariant-loop-at
+invariant-loop-at l = record {
+  lists : UnlinksSegment l.name l.fn.self l.self-inside.nodes.slots (segment_start l.self-inside.segments.items) (pixel_start l.self-inside.pixels.items) l.at;
+  by_name : Rise label_cmp l.self-inside.segments.items;
+  by_pixel : Rise point_cmp l.self-inside.pixels.items;
+  head : IsHeadPlace label_cmp l.self-inside.segments.items l.name l.head.place;
+  some : segment_start l.self-inside.segments.items l.name ≢ end;
+  room : l.fn.self.spare ≤ min l.self-inside.nodes.room
+      (min (vec_capacity l.self-inside.segments - vec_len l.self-inside.segments) (vec_capacity l.self-inside.pixels - vec_len l.self-inside.pixels));
+}
 
-abbrev pub decreases-loop-pixel : goal.decreases-loop-pixel
-decreases-loop-pixel l = length (pixels_of l.self l.name)
+abbrev pub decreases-loop-at : goal.decreases-loop-at
+decreases-loop-at l = length (pixels_from l.self-inside.nodes.slots l.at)
