@@ -1,5 +1,5 @@
 mod TestLaws
-mod StoreLaws
+mod NodesLaws
 mod ChainLaws
 mod FamilyLaws
 mod ListedLaws

@@ -7,7 +7,7 @@ use Rattle.grid_core.specs.Name.{Label, label_eq}
 use Rattle.pass_links.specs.declared.node.Node.{Node}
 use Rattle.pass_links.specs.Chain.{end, key_of}
 use Rattle.pass_links.specs.Node.{along_of, across_of, back_along_of, back_across_of, name_of, pixel_of, along_at, across_at, back_along_at, back_across_at, name_at, pixel_at, SetsBackAlong, SetsBackAcross}
-use Rattle.pass_links.specs.Store.{Changes}
+use Rattle.pass_links.specs.Nodes.{Changes}
 use Rattle.pass_links.specs.Links.{is_key, PointsAlong, PointsAcross, TakesAlong, TakesAcross}
 use Rattle.pass_links.proofs.PlaceLaws.{IsPointed}
 use Rattle.pass_links.proofs.BackLaws.{IsPointedBack}

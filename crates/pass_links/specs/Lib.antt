@@ -1,10 +1,9 @@
 pub mod Passes
 pub mod Chain
+pub mod Nodes
 pub mod Node
 pub mod Heads
 pub mod Lists
 pub mod Seek
 pub mod Links
 pub mod Filing
-pub mod Store
-pub mod Vacant

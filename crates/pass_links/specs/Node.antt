@@ -5,7 +5,7 @@ use Rattle.grid_core.specs.declared.point.Point.{Point}
 use Rattle.grid_core.specs.Name.{Label}
 use Rattle.pass_links.specs.declared.node.Node.{Node}
 use Rattle.pass_links.specs.Chain.{end}
-use Rattle.pass_links.specs.Store.{stored_at}
+use Rattle.pass_links.specs.Nodes.{stored_at}
 
 -- the key behind a node in its segment's list; the end where there is no node
 abbrev pub along_of : Option Node → ℕ

@@ -5,8 +5,8 @@ ghost use Rattle.std.specs.Vec.{vec_len, vec_capacity};
 ghost use Rattle.pass_links.specs.Chain.{end};
 ghost use Rattle.pass_links.specs.Heads.{first_of, Rise, IsHeadPlace};
 
+use crate::nodes::END;
 use crate::owner::Owner;
-use crate::store::END;
 
 /// Where the list of one segment or pixel begins.
 #[derive(Clone, Copy)]

@@ -41,11 +41,11 @@ mod heads;
 mod links;
 mod lists;
 mod node;
+mod nodes;
 mod owner;
 mod passes;
 mod room;
 mod seek;
-mod store;
 #[cfg(test)]
 mod tests;
 

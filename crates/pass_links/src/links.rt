@@ -10,21 +10,21 @@ ghost use Rattle.pass_links.specs.Chain.{end, IsFamily, IsPlace, LinksBack};
 ghost use Rattle.pass_links.specs.Node.{along_at, across_at, back_along_at, back_across_at, name_at, pixel_at};
 ghost use Rattle.pass_links.specs.Lists.{pixels_from};
 ghost use Rattle.pass_links.specs.Heads.{Rise, segment_start, pixel_start};
-ghost use Rattle.pass_links.specs.Store.{stored_at};
+ghost use Rattle.pass_links.specs.Nodes.{stored_at};
 ghost use Rattle.pass_links.specs.Links.{PointsAlong, PointsAcross, TakesAlong, TakesAcross, HasHeadRoom, KeepsHeadRoom};
 ghost use Rattle.pass_links.specs.Seek.{IsThrough, node_before, IsHeadBefore};
 ghost use Rattle.pass_links.specs.Filing.{AreFiled, AreLonger};
 
 use crate::heads::{Head, set_first};
 use crate::node::{Node, set_across, set_along, set_back_across, set_back_along};
+use crate::nodes::Nodes;
 use crate::seek::{Before, Seek, before_node, seek_across};
-use crate::store::Store;
 use grid_core::{Name, Point};
 
 /// Lets `next` come behind a node of the segment's list, or first in it. The head of a list that
 /// becomes empty goes. Takes no memory.
 pub(crate) fn point_along(
-    nodes: &mut Store<Node>,
+    nodes: &mut Nodes,
     segments: &mut Vec<Head<Name>>,
     name: Name,
     before: Before,
@@ -53,7 +53,7 @@ pub(crate) fn point_along(
 /// Lets `next` come behind a node of the pixel's list, or first in it. The head of a list that
 /// becomes empty goes. Takes no memory.
 pub(crate) fn point_across(
-    nodes: &mut Store<Node>,
+    nodes: &mut Nodes,
     pixels: &mut Vec<Head<Point>>,
     pixel: Point,
     before: Before,
@@ -82,7 +82,7 @@ pub(crate) fn point_across(
 /// Links the pass of this segment through this pixel: at this place in the segment's list, and by
 /// name in the pixel's list. Gives the key of its node. Takes no memory.
 pub(crate) fn link_at(
-    nodes: &mut Store<Node>,
+    nodes: &mut Nodes,
     segments: &mut Vec<Head<Name>>,
     pixels: &mut Vec<Head<Point>>,
     name: Name,
@@ -135,7 +135,7 @@ pub(crate) fn link_at(
 
 /// Takes the node at `key` out of its segment's list and out of the store, and gives it. Its
 /// neighbours in its pixel's list are as they were. Takes no memory.
-pub(crate) fn take_along(nodes: &mut Store<Node>, segments: &mut Vec<Head<Name>>, key: u32) -> Node
+pub(crate) fn take_along(nodes: &mut Nodes, segments: &mut Vec<Head<Name>>, key: u32) -> Node
     requires by_name { Rise label_cmp segments.old.items }
     requires lists { IsFamily label_eq (along_at nodes.old.slots)
         (segment_start segments.old.items) (name_at nodes.old.slots) end }
@@ -150,7 +150,7 @@ pub(crate) fn take_along(nodes: &mut Store<Node>, segments: &mut Vec<Head<Name>>
     ensures len { vec_len segments.new ≤ vec_len segments.old }
     ensures capacity { vec_capacity segments.new ≡ vec_capacity segments.old }
 {
-    let node = *nodes.value(key);
+    let node = nodes.value(key);
     nodes.remove(key);
     let before = before_node(segments, node.name, node.previous_of_segment);
     point_along(nodes, segments, node.name, before, node.next_of_segment);
@@ -160,7 +160,7 @@ pub(crate) fn take_along(nodes: &mut Store<Node>, segments: &mut Vec<Head<Name>>
 
 /// Takes the node at `key` out of its pixel's list and out of the store, and gives it. Its
 /// neighbours in its segment's list are as they were. Takes no memory.
-pub(crate) fn take_across(nodes: &mut Store<Node>, pixels: &mut Vec<Head<Point>>, key: u32) -> Node
+pub(crate) fn take_across(nodes: &mut Nodes, pixels: &mut Vec<Head<Point>>, key: u32) -> Node
     requires by_pixel { Rise point_cmp pixels.old.items }
     requires lists { IsFamily point_eq (across_at nodes.old.slots)
         (pixel_start pixels.old.items) (pixel_at nodes.old.slots) end }
@@ -175,7 +175,7 @@ pub(crate) fn take_across(nodes: &mut Store<Node>, pixels: &mut Vec<Head<Point>>
     ensures len { vec_len pixels.new ≤ vec_len pixels.old }
     ensures capacity { vec_capacity pixels.new ≡ vec_capacity pixels.old }
 {
-    let node = *nodes.value(key);
+    let node = nodes.value(key);
     nodes.remove(key);
     let before = before_node(pixels, node.pixel, node.previous_of_pixel);
     point_across(nodes, pixels, node.pixel, before, node.next_of_pixel);

@@ -1,15 +1,14 @@
 //! The walks along a segment's list and across a pixel's list.
 ghost use Rattle.std.specs.Iterator.{YieldsFirst, item_count};
 
-use crate::node::Node;
-use crate::store::Store;
+use crate::nodes::Nodes;
 use grid_core::{Name, Point};
 use std::marker::Model;
 
 /// The pixels of a segment that are still to come, in the order of its list.
 #[derive(Drop)]
 pub struct Along<'a> {
-    pub(crate) nodes: &'a Store<Node>,
+    pub(crate) nodes: &'a Nodes,
     /// The key of the node that comes next, or `END`.
     pub(crate) at: u32,
 }
@@ -44,7 +43,7 @@ impl<'a> Iterator for Along<'a> {
 /// The names of the segments through a pixel that are still to come, in order.
 #[derive(Drop)]
 pub struct Across<'a> {
-    pub(crate) nodes: &'a Store<Node>,
+    pub(crate) nodes: &'a Nodes,
     /// The key of the node that comes next, or `END`.
     pub(crate) at: u32,
 }

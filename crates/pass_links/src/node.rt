@@ -1,10 +1,10 @@
 //! One pass as a node of two lists, and the links from node to node.
 ghost use Rattle.std.specs.Prelude.{◌≡◌, IsSome, IfSome};
-ghost use Rattle.pass_links.specs.Store.{stored_at};
+ghost use Rattle.pass_links.specs.Nodes.{stored_at};
 ghost use Rattle.pass_links.specs.Chain.{key_of};
 ghost use Rattle.pass_links.specs.Node.{SetsAlong, SetsAcross, SetsBackAlong, SetsBackAcross};
 
-use crate::store::{END, Store};
+use crate::nodes::{END, Nodes};
 use grid_core::{Name, Point};
 
 /// One pass of a segment through a hot pixel: a node of the segment's list and of the pixel's.
@@ -25,12 +25,12 @@ pub(crate) struct Node {
 }
 
 /// Sets what comes behind the node at `key` in its segment's list.
-pub(crate) fn set_along(nodes: &mut Store<Node>, key: u32, next: u32)
+pub(crate) fn set_along(nodes: &mut Nodes, key: u32, next: u32)
     requires { IsSome (stored_at nodes.old.slots key) }
     ensures links { SetsAlong nodes.old.slots nodes.new.slots key next }
     ensures room { nodes.new.room ≡ nodes.old.room }
 {
-    let node = *nodes.value(key);
+    let node = nodes.value(key);
     nodes.set(
         key,
         Node {
@@ -41,12 +41,12 @@ pub(crate) fn set_along(nodes: &mut Store<Node>, key: u32, next: u32)
 }
 
 /// Sets what comes behind the node at `key` in its pixel's list.
-pub(crate) fn set_across(nodes: &mut Store<Node>, key: u32, next: u32)
+pub(crate) fn set_across(nodes: &mut Nodes, key: u32, next: u32)
     requires { IsSome (stored_at nodes.old.slots key) }
     ensures links { SetsAcross nodes.old.slots nodes.new.slots key next }
     ensures room { nodes.new.room ≡ nodes.old.room }
 {
-    let node = *nodes.value(key);
+    let node = nodes.value(key);
     nodes.set(
         key,
         Node {
@@ -57,7 +57,7 @@ pub(crate) fn set_across(nodes: &mut Store<Node>, key: u32, next: u32)
 }
 
 /// Sets what comes before the node at `key`, if it isn't `END`, in its segment's list.
-pub(crate) fn set_back_along(nodes: &mut Store<Node>, key: u32, previous: u32)
+pub(crate) fn set_back_along(nodes: &mut Nodes, key: u32, previous: u32)
     requires { IfSome (key_of key) (λ k. IsSome (stored_at nodes.old.slots k)) }
     ensures links { SetsBackAlong nodes.old.slots nodes.new.slots key previous }
     ensures room { nodes.new.room ≡ nodes.old.room }
@@ -65,7 +65,7 @@ pub(crate) fn set_back_along(nodes: &mut Store<Node>, key: u32, previous: u32)
     if key == END {
         return;
     }
-    let node = *nodes.value(key);
+    let node = nodes.value(key);
     nodes.set(
         key,
         Node {
@@ -76,7 +76,7 @@ pub(crate) fn set_back_along(nodes: &mut Store<Node>, key: u32, previous: u32)
 }
 
 /// Sets what comes before the node at `key`, if it isn't `END`, in its pixel's list.
-pub(crate) fn set_back_across(nodes: &mut Store<Node>, key: u32, previous: u32)
+pub(crate) fn set_back_across(nodes: &mut Nodes, key: u32, previous: u32)
     requires { IfSome (key_of key) (λ k. IsSome (stored_at nodes.old.slots k)) }
     ensures links { SetsBackAcross nodes.old.slots nodes.new.slots key previous }
     ensures room { nodes.new.room ≡ nodes.old.room }
@@ -84,7 +84,7 @@ pub(crate) fn set_back_across(nodes: &mut Store<Node>, key: u32, previous: u32)
     if key == END {
         return;
     }
-    let node = *nodes.value(key);
+    let node = nodes.value(key);
     nodes.set(
         key,
         Node {

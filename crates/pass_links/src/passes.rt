@@ -9,10 +9,10 @@ ghost use Rattle.pass_links.specs.Passes.{linked_behind, run_behind, AreFresh, w
 use crate::heads::{Head, find, set_first};
 use crate::links::{link_at, take_across, take_along};
 use crate::lists::{Across, Along};
-use crate::node::{Node, set_back_across, set_back_along};
+use crate::node::{set_back_across, set_back_along};
+use crate::nodes::{END, Nodes};
 use crate::room::{copied, room_left};
 use crate::seek::{Before, Seek, seek_across, seek_behind};
-use crate::store::{END, Store};
 use grid_core::{Memory, Name, Point};
 use std::alloc::Global;
 use std::marker::Model;
@@ -23,7 +23,7 @@ use std::marker::Model;
 #[derive(Drop)]
 pub struct Passes {
     /// Each pass once: a node of its segment's list and of its pixel's list.
-    nodes: Store<Node>,
+    nodes: Nodes,
     /// Where the lists of segments begin, by rising name.
     segments: Vec<Head<Name>>,
     /// Where the lists of pixels begin, by rising pixel.
@@ -66,7 +66,7 @@ impl Passes {
         ensures pixels { (p : Point) → names_at result p ≡ [] }
     {
         Passes {
-            nodes: Store::new(alloc),
+            nodes: Nodes::new(alloc),
             segments: Vec::new(alloc),
             pixels: Vec::new(alloc),
             spare: 0,

@@ -3,13 +3,12 @@ ghost use Rattle.std.specs.Prelude.{◌≡◌, ◌+◌, ◌-◌, ◌≤◌, min,
 ghost use Rattle.std.specs.Vec.{vec_len, vec_capacity};
 
 use crate::heads::Head;
-use crate::node::Node;
-use crate::store::Store;
+use crate::nodes::Nodes;
 use grid_core::{Memory, Name, Point};
 
 /// How many passes fit that need a node and two heads each.
 pub(crate) fn room_left(
-    nodes: &Store<Node>,
+    nodes: &Nodes,
     segments: &Vec<Head<Name>>,
     pixels: &Vec<Head<Point>>,
 ) -> usize

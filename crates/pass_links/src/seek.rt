@@ -13,8 +13,8 @@ ghost use Rattle.pass_links.specs.Filing.{AreFiled};
 
 use crate::heads::{Head, find};
 use crate::node::Node;
+use crate::nodes::{END, Nodes};
 use crate::owner::Owner;
-use crate::store::{END, Store};
 use grid_core::{Name, Point};
 
 /// What comes before a place in a list, and has the link to it.
@@ -60,12 +60,7 @@ pub(crate) fn before_node<K: Owner>(heads: &[Head<K>], of: K, previous: u32) -> 
 }
 
 /// The first node in the pixel's list whose name isn't less than this one, or the list's end.
-pub(crate) fn seek_across(
-    nodes: &Store<Node>,
-    pixels: &[Head<Point>],
-    pixel: Point,
-    name: Name,
-) -> Seek
+pub(crate) fn seek_across(nodes: &Nodes, pixels: &[Head<Point>], pixel: Point, name: Name) -> Seek
     requires by_pixel { Rise point_cmp pixels.now }
     requires lists { IsFamily point_eq (across_at nodes.now.slots) (pixel_start pixels.now)
         (pixel_at nodes.now.slots) end }
@@ -99,7 +94,7 @@ pub(crate) fn seek_across(
 /// Where a pass of this segment goes that is put right behind its pass through `after`, or in front
 /// of its other passes.
 pub(crate) fn seek_behind(
-    nodes: &Store<Node>,
+    nodes: &Nodes,
     segments: &[Head<Name>],
     pixels: &[Head<Point>],
     name: Name,

@@ -14,28 +14,28 @@ loop-node-init c = record {
 
 pub loop-node-smaller : goal.loop-node-smaller
 loop-node-smaller c =
-    (across_steps c.args.nodes.now.slots c.args.pixels.now c.args.pixel c.args.name c.requires.lists c.loop-node.seek.at c.in-Some.node.now c.in-Some.ensures
+    (across_steps c.args.nodes.now.slots c.args.pixels.now c.args.pixel c.args.name c.requires.lists c.loop-node.seek.at c.in-Some.node c.in-Some.ensures
     c.loop-node.invariant.seeks.whole).shorter
 
 pub loop-node-preserved : goal.loop-node-preserved
 loop-node-preserved c = record {
   seeks =
-      across_passed c.args.nodes.now.slots c.args.pixels.now c.args.pixel c.args.name c.requires.lists _ c.loop-node.seek.at c.in-Some.node.now
+      across_passed c.args.nodes.now.slots c.args.pixels.now c.args.pixel c.args.name c.requires.lists _ c.loop-node.seek.at c.in-Some.node
       c.loop-node.invariant.seeks c.in-Some.ensures (is_lesser _ (search rules));
   head = tt;
 }
 
-least : (c : Then-ge) → is_lt (label_cmp c.in-Some.node.now.name c.args.name) ≡ false
+least : (c : Then-ge) → is_lt (label_cmp c.in-Some.node.name c.args.name) ≡ false
 least c = not_lesser _ (search rules)
 
 pub returns-then-ge-clause-here : goal.returns-then-ge-clause-here
 returns-then-ge-clause-here c =
-    (across_found c.args.nodes.now.slots c.args.pixels.now c.args.pixel c.args.name c.requires.lists _ c.loop-node.seek.at c.in-Some.node.now
+    (across_found c.args.nodes.now.slots c.args.pixels.now c.args.pixel c.args.name c.requires.lists _ c.loop-node.seek.at c.in-Some.node
     c.loop-node.invariant.seeks c.in-Some.ensures (least c)).0
 
 pub returns-then-ge-clause-found : goal.returns-then-ge-clause-found
 returns-then-ge-clause-found c =
-    (across_found c.args.nodes.now.slots c.args.pixels.now c.args.pixel c.args.name c.requires.lists _ c.loop-node.seek.at c.in-Some.node.now
+    (across_found c.args.nodes.now.slots c.args.pixels.now c.args.pixel c.args.name c.requires.lists _ c.loop-node.seek.at c.in-Some.node
     c.loop-node.invariant.seeks c.in-Some.ensures (least c)).1
 
 pub returns-in_default-clause-here : goal.returns-in_default-clause-here

@@ -5,9 +5,9 @@ use Rattle.pass_links.specs.Node.{across_at}
 use Rattle.pass_links.proofs.lists.AcrossIterator.next.Goals as goal
 use Rattle.pass_links.proofs.lists.AcrossIterator.next.Goals.{In_ok-node}
 
-passed : (c : In_ok-node) → Steps (across_at c.self.inside.nodes.now.slots) (names_from c.self.inside.nodes.now.slots) c.self.inside.at c.in_ok-node.node.now.next_of_pixel c.in_ok-node.node.now.name
+passed : (c : In_ok-node) → Steps (across_at c.self.inside.nodes.now.slots) (names_from c.self.inside.nodes.now.slots) c.self.inside.at c.in_ok-node.node.next_of_pixel c.in_ok-node.node.name
 passed c =
-    across_step c.self.inside.nodes.now.slots c.self.invariant.free c.self.inside.at c.in_ok-node.node.now (sym c.in_ok-node.ensures) c.self.invariant.whole
+    across_step c.self.inside.nodes.now.slots c.self.invariant.free c.self.inside.at c.in_ok-node.node (sym c.in_ok-node.ensures) c.self.invariant.whole
 
 pub returns-in_err-node-clause-steps : goal.returns-in_err-node-clause-steps
 returns-in_err-node-clause-steps c =

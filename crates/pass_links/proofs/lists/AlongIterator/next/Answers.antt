@@ -5,9 +5,9 @@ use Rattle.pass_links.specs.Node.{along_at}
 use Rattle.pass_links.proofs.lists.AlongIterator.next.Goals as goal
 use Rattle.pass_links.proofs.lists.AlongIterator.next.Goals.{In_ok-node}
 
-passed : (c : In_ok-node) → Steps (along_at c.self.inside.nodes.now.slots) (pixels_from c.self.inside.nodes.now.slots) c.self.inside.at c.in_ok-node.node.now.next_of_segment c.in_ok-node.node.now.pixel
+passed : (c : In_ok-node) → Steps (along_at c.self.inside.nodes.now.slots) (pixels_from c.self.inside.nodes.now.slots) c.self.inside.at c.in_ok-node.node.next_of_segment c.in_ok-node.node.pixel
 passed c =
-    along_step c.self.inside.nodes.now.slots c.self.invariant.free c.self.inside.at c.in_ok-node.node.now (sym c.in_ok-node.ensures) c.self.invariant.whole
+    along_step c.self.inside.nodes.now.slots c.self.invariant.free c.self.inside.at c.in_ok-node.node (sym c.in_ok-node.ensures) c.self.invariant.whole
 
 pub returns-in_err-node-clause-steps : goal.returns-in_err-node-clause-steps
 returns-in_err-node-clause-steps c =

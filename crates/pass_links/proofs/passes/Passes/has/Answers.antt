@@ -10,7 +10,7 @@ use Rattle.pass_links.proofs.passes.Passes.has.Goals as goal
 
 pub returns-in-Some : goal.returns-in-Some
 returns-in-Some c =
-    c.eq.ensures ∙ name_test c.in-Some.node.now.name c.args.name ∙ (eq_by_cmp_equiv label_total).symm c.in-Some.node.now.name c.args.name
+    c.eq.ensures ∙ name_test c.in-Some.node.name c.args.name ∙ (eq_by_cmp_equiv label_total).symm c.in-Some.node.name c.args.name
     ∙ ap (λ o. is_of label_eq c.args.name (name_of o)) c.in-Some.ensures ∙ sym c.seek_across-place.ensures.found
     ∙ sym (seen_has c.self.inside.nodes.slots c.self.inside.segments.items c.self.inside.pixels.items c.args.self.now _ c.self.view_is c.self.invariant.lists
     c.deref.result.now c.deref.ensures.value c.args.name c.args.pixel)

@@ -1,0 +1,13 @@
+use Rattle.std.proofs.Common.{Some, refl, arith, subst, length-set}
+use Rattle.slab.specs.Slab.{Updates}
+use Rattle.pass_links.proofs.NodesLaws.{none_seen, changes_seen}
+use Rattle.pass_links.proofs.nodes.Nodes.insert.Goals as goal
+
+pub returns-clause-was_vacant : goal.returns-clause-was_vacant
+returns-clause-was_vacant c = none_seen _ _ _ c.self.invariant c.self.view_is c.insert_reserved-key.result c.insert_reserved-key.ensures.was_vacant
+
+pub returns-clause-changes : goal.returns-clause-changes
+returns-clause-changes c =
+    changes_seen _ _ _ c.self.invariant c.self.view_is c.insert_reserved-key.new.self _ c.insert_reserved-key.result _ c.args.node.pixel
+    (subst (λ l. Updates c.self.inside.links c.insert_reserved-key.new.self c.insert_reserved-key.result (Some l)) c.of.ensures c.insert_reserved-key.ensures.updates)
+    refl (omega arith) (rw length-set (omega arith))
