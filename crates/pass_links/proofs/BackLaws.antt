@@ -1,12 +1,13 @@
 -- The links back stay those of the links forward when a key is put into a list and when one is taken out:
 -- a place whose two sides were not set is as it was, and the sides that were set are the new places.
-use Rattle.std.proofs.Common.{◌≡◌, ◌≢◌, refl, ap, sym, ◌∙◌, subst, ℕ, ◌<◌, arith, Bool, false, cond, Option, None, Some, ⊎_elim}
+use Rattle.std.proofs.Common.{◌≡◌, ◌≢◌, refl, ap, sym, ◌∙◌, subst, ℕ, ◌<◌, arith, Bool, true, false, true≢false, cond, Option, None, Some, ⊎_elim}
 use Rattle.std.specs.Prelude.{◌==◌, IfSome}
 use Rattle.std.specs.Bool.{Decides}
 use Rattle.std.proofs.lemmas.Bool.{cases_eq, false_from_ne_true}
 use Rattle.std.proofs.lemmas.Bool.Decides.{Decides-eqb}
 use Rattle.std.proofs.lemmas.Option.{none-some, same_Some}
-use Rattle.pass_links.specs.Chain.{end, IsFamily, IsPlace, key_of, link_to, LinksBack}
+use Rattle.pass_links.specs.Chain.{end, way, has_key, is_of, IsFamily, IsPlace, key_of, link_to, LinksBack}
+use Rattle.pass_links.proofs.ChainLaws.{way_end}
 use Rattle.pass_links.proofs.FamilyLaws.{next_stored}
 use Rattle.pass_links.proofs.PlaceLaws.{IsPointed, labelled, before_other}
 use Rattle.pass_links.proofs.WalkLaws.{place_stored, ended}
@@ -15,7 +16,7 @@ use Rattle.pass_links.proofs.TestLaws.{itself, key_itself, keys_differ}
 -- ---- links and keys
 
 -- a key that is not the end is the key of its link
-pub key_of_key : (k : ℕ) → k ≢ end → key_of k ≡ Some k
+key_of_key : (k : ℕ) → k ≢ end → key_of k ≡ Some k
 key_of_key k apart = ap (λ b. cond b None (Some k)) (keys_differ k end apart)
 
 -- a link leads to the end, or to a key
@@ -26,6 +27,10 @@ at_stored P at h =
 -- the key k has `previous` before it now, and other keys have before them what they had; but for x
 abbrev pub IsPointedBack : (ℕ → ℕ) → (ℕ → ℕ) → ℕ → ℕ → ℕ → Type 0
 IsPointedBack back back' x at previous = (k : ℕ) → k ≢ x → k ≢ end → back' k ≡ cond (k == at) previous (back k)
+
+-- the links back in all lists but that of q
+abbrev pub LinksBackBut : {K : Type 0} → (K → K → Bool) → K → (ℕ → ℕ) → (K → ℕ) → (ℕ → Option K) → (ℕ → ℕ) → Type 0
+LinksBackBut {K} same q f first label back = (k : ℕ) (r : K) → same r q ≡ false → label k ≡ Some r → IsPlace f first label r (key_of (back k)) k
 
 module _ {K : Type 0} (same : K → K → Bool) (decides : (a b : K) → Decides (same a b) (a ≡ b)) where
   -- the link to what is before a place leads there
@@ -145,3 +150,37 @@ module _ {K : Type 0} (same : K → K → Bool) (decides : (a b : K) → Decides
           subst (λ j. IsPlace f' first' label' r (key_of j) k) (sym is_old)
           (place_kept q before y (f y) y place set label_as r (key_of (back k)) k apart (backs k r of_k)
           (λ p t same_y. e (sym (subst (λ b. IsPlace f first label r b k) t (backs k r of_k)).1 ∙ ap f same_y)))
+
+  -- the key y of q is gone, and in the other lists nothing was set
+  pub back_beside : {f f' : ℕ → ℕ} (first : K → ℕ) {label label' : ℕ → Option K} (back back' : ℕ → ℕ) (q : K) (y : ℕ) → LinksBackBut same q f first label back
+      → label y ≡ Some q → label' y ≡ None → ((k : ℕ) → k ≢ y → f' k ≡ f k) → ((k : ℕ) → k ≢ y → back' k ≡ back k) → ((k : ℕ) → k ≢ y → label' k ≡ label k)
+      → LinksBackBut same q f' first label' back'
+  back_beside {f} {f'} first {label} {label'} back back' q y backs of_y label_at f_as back_as label_as k r apart of_r =
+      by (key_of (back' k)) (subst (λ j. IsPlace f first label r (key_of j) k) (sym (back_as k gone)) (backs k r apart (sym (label_as k gone) ∙ of_r)))
+    where
+      gone : k ≢ y
+      gone e = none-some r (sym label_at ∙ ap label' (sym e) ∙ of_r)
+
+      -- a key of another list is not y
+      other : (p : ℕ) → label p ≡ Some r → p ≢ y
+      other p of_p e = true≢false (sym ((decides r q).1 (one_label label r q p y of_p of_y e)) ∙ apart)
+
+      by : (o : Option ℕ) → IsPlace f first label r o k → IsPlace f' first label' r o k
+      by None there = there
+      by (Some p) there = (label_as p (other p there.0) ∙ there.0, f_as p (other p there.0) ∙ there.1)
+
+  -- the list of q is empty
+  pub back_all : {f : ℕ → ℕ} {first first' : K → ℕ} {label : ℕ → Option K} (back : ℕ → ℕ) (q : K) → LinksBackBut same q f first label back
+      → IsFamily same f first' label end → first' q ≡ end → ((r : K) → same r q ≡ false → first' r ≡ first r) → LinksBack f first' label back
+  back_all {f} {first} {first'} {label} back q backs h none starts k r of_r = by (same r q) refl
+    where
+      there : (o : Option ℕ) → first' r ≡ first r → IsPlace f first label r o k → IsPlace f first' label r o k
+      there None e place = e ∙ place
+      there (Some p) e place = place
+
+      by : (b : Bool) → same r q ≡ b → IsPlace f first' label r (key_of (back k)) k
+      by true e =
+          absurd (true≢false
+          (sym (itself same decides q) ∙ ap (same q) (sym ((decides r q).0 e)) ∙ ap (is_of same q) (sym of_r) ∙ sym (h.exact q k)
+          ∙ ap (λ j. has_key (way f end j) k) none ∙ ap (λ ks. has_key ks k) (way_end f end)))
+      by false e = there (key_of (back k)) (starts r e) (backs k r e of_r)

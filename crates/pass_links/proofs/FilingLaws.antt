@@ -1,6 +1,6 @@
--- The lists stay filed when a node is linked into both its lists and when it is unlinked from both. In
--- each family the way of one list changes by one key, so its values change by one value, and the laws of
--- the two families of values say that they still agree.
+-- The lists stay filed when a node is linked into both its lists, and each node stands in its lists still
+-- when one is unlinked from both. In each family the way of one list changes by one key, so its values
+-- change by one value, and the laws of the two families of values say that they still agree.
 use Rattle.std.proofs.Common.{◌≡◌, ◌≢◌, refl, ap, sym, ◌∙◌, subst, ℕ, ◌<◌, arith, Bool, true, false, not, cond, List, Option, None, Some, inl, inr}
 use Rattle.std.specs.Prelude.{◌==◌, filter}
 use Rattle.std.specs.Bool.{Decides}
@@ -11,7 +11,7 @@ use Rattle.pass_links.specs.declared.node.Node.{Node}
 use Rattle.pass_links.specs.Chain.{end, way, has_key, is_of, IsFamily, listed, IsPlace, key_of, LinksBack}
 use Rattle.pass_links.specs.Node.{name_of, pixel_of, node_at, along_at, across_at, back_along_at, back_across_at, name_at, pixel_at}
 use Rattle.pass_links.specs.Lists.{pixels_from, names_from}
-use Rattle.pass_links.specs.Passes.{has_pixel, linked_behind, with_name, without_pixel, without_name}
+use Rattle.pass_links.specs.Passes.{has_pixel, linked_behind, with_name, without_pixel, without_name, AreLinked}
 use Rattle.pass_links.specs.Filing.{AreFiled, AreLonger}
 use Rattle.pass_links.specs.Seek.{IsLesser, IsThrough}
 use Rattle.pass_links.specs.Links.{is_key}
@@ -22,8 +22,8 @@ use Rattle.pass_links.proofs.TestLaws.{keys_differ, point_decides, label_decides
 use Rattle.pass_links.proofs.PlaceLaws.{put_key, labelled, place_put, place_taken, values_kept, before_in}
 use Rattle.pass_links.proofs.ValueLaws.{IsGreaterOf, key_at, pixel_put, name_put}
 use Rattle.pass_links.proofs.WalkLaws.{place_stored}
-use Rattle.pass_links.proofs.BackLaws.{back_put, back_taken}
-use Rattle.pass_links.proofs.NodeLaws.{Relinks, HasLinks}
+use Rattle.pass_links.proofs.BackLaws.{back_put}
+use Rattle.pass_links.proofs.NodeLaws.{Relinks, RelinksBack, HasLinks}
 
 module _ {K : Type 0} (same : K → K → Bool) (decides : (m n : K) → Decides (same m n) (m ≡ n)) where
   -- the key before a place is another than one without a label
@@ -74,7 +74,8 @@ pub record IsNew (old : List (Option Node)) (a : Label → ℕ) (b : Point → �
 module _ (old new : List (Option Node)) (a a' : Label → ℕ) (b b' : Point → ℕ) (name : Label) (pixel : Point) (after : Option Point) (x : ℕ)
     (before_a : Option ℕ) (at_a previous_a : ℕ) (before_b : Option ℕ) (at_b previous_b : ℕ)
     (filed : AreFiled old a b) (w : IsNew old a b name pixel after x before_a at_a previous_a before_b at_b previous_b)
-    (c : Relinks old new a a' b b' name pixel x (Some (new_node name pixel at_a previous_a at_b previous_b)) before_a x at_a x before_b x at_b x)
+    (c : Relinks old new a a' b b' name pixel x (Some (new_node name pixel at_a previous_a at_b previous_b)) before_a x before_b x)
+    (back : RelinksBack old new x at_a x at_b x)
     (d : HasLinks new x (Some (new_node name pixel at_a previous_a at_b previous_b)) before_a x at_a x before_b x at_b x) where
   -- ---- the segment's list
 
@@ -99,7 +100,7 @@ module _ (old new : List (Option Node)) (a a' : Label → ℕ) (b b' : Point →
       back_put label_eq label_decides (back_along_at old) (back_along_at new) name before_a at_a x previous_a filed.along filed.back_along w.along w.low unnamed along_there w.back_along
       (d.back_along not_the_end
       ∙ ap (λ t. cond t x previous_a) (keys_differ x at_a (at_fresh label_eq label_decides (along_at old) a (name_at old) name before_a at_a x filed.along w.along w.low unnamed)))
-      c.along c.back_along c.name_there c.names
+      c.along back.along c.name_there c.names
 
   -- the values of the ways that were there
   pixels_stay : (n : Label) → listed (pixel_at new) (way (along_at old) end (a n)) ≡ pixels_from old (a n)
@@ -137,7 +138,7 @@ module _ (old new : List (Option Node)) (a a' : Label → ℕ) (b b' : Point →
       back_put point_eq point_decides (back_across_at old) (back_across_at new) pixel before_b at_b x previous_b filed.across filed.back_across w.across w.low unplaced across_there w.back_across
       (d.back_across not_the_end
       ∙ ap (λ t. cond t x previous_b) (keys_differ x at_b (at_fresh point_eq point_decides (across_at old) b (pixel_at old) pixel before_b at_b x filed.across w.across w.low unplaced)))
-      c.across c.back_across c.pixel_there c.pixels
+      c.across back.across c.pixel_there c.pixels
 
   names_stay : (p : Point) → listed (name_at new) (way (across_at old) end (b p)) ≡ names_from old (b p)
   names_stay p =
@@ -183,33 +184,29 @@ module _ (old new : List (Option Node)) (a a' : Label → ℕ) (b b' : Point →
 
 -- ---- a pass is unlinked
 
+-- the nodes stand in their lists, whatever the links back
+pub record AreListed (slots : List (Option Node)) (a : Label → ℕ) (b : Point → ℕ) : Type 0 where
+  pub along : IsFamily label_eq (along_at slots) a (name_at slots) end
+  pub across : IsFamily point_eq (across_at slots) b (pixel_at slots) end
+  pub linked : AreLinked (λ n. pixels_from slots (a n)) (λ p. names_from slots (b p))
+
 -- the lists after a pass was unlinked
 pub record AreShorter (old new : List (Option Node)) (a a' : Label → ℕ) (b b' : Point → ℕ) (name : Label) (pixel : Point) : Type 0 where
-  pub filed : AreFiled new a' b'
+  pub lists : AreListed new a' b'
   pub segment : pixels_from new (a' name) ≡ without_pixel pixel (pixels_from old (a name))
   pub segments : (n : Label) → label_eq n name ≡ false → pixels_from new (a' n) ≡ pixels_from old (a n)
   pub here : names_from new (b' pixel) ≡ without_name name (names_from old (b pixel))
   pub pixels : (p : Point) → point_eq p pixel ≡ false → names_from new (b' p) ≡ names_from old (b p)
 
 module _ (old new : List (Option Node)) (a a' : Label → ℕ) (b b' : Point → ℕ) (name : Label) (pixel : Point) (y : ℕ)
-    (before_a : Option ℕ) (previous_a : ℕ) (before_b : Option ℕ) (previous_b : ℕ)
-    (filed : AreFiled old a b) (named : name_at old y ≡ Some name) (placed : pixel_at old y ≡ Some pixel)
+    (before_a before_b : Option ℕ) (filed : AreListed old a b) (named : name_at old y ≡ Some name) (placed : pixel_at old y ≡ Some pixel)
     (along : IsPlace (along_at old) a (name_at old) name before_a y) (across : IsPlace (across_at old) b (pixel_at old) pixel before_b y)
-    (back_along : key_of previous_a ≡ before_a) (back_across : key_of previous_b ≡ before_b)
-    (c : Relinks old new a a' b b' name pixel y None before_a (along_at old y) (along_at old y) previous_a before_b (across_at old y) (across_at old y) previous_b) where
+    (c : Relinks old new a a' b b' name pixel y None before_a (along_at old y) before_b (across_at old y)) where
   taken_along : IsChanged label_eq (along_at old) a end (along_at new) a' (name_at new) end name (filter (λ k. not (k == y)) (way (along_at old) end (a name)))
   taken_along = place_taken label_eq label_decides name before_a y filed.along along named c.along c.name_there c.names
 
   taken_across : IsChanged point_eq (across_at old) b end (across_at new) b' (pixel_at new) end pixel (filter (λ k. not (k == y)) (way (across_at old) end (b pixel)))
   taken_across = place_taken point_eq point_decides pixel before_b y filed.across across placed c.across c.pixel_there c.pixels
-
-  taken_back_along : LinksBack (along_at new) a' (name_at new) (back_along_at new)
-  taken_back_along =
-      back_taken label_eq label_decides (back_along_at old) (back_along_at new) name before_a y previous_a filed.along filed.back_along along named back_along c.along c.back_along c.name_there c.names
-
-  taken_back_across : LinksBack (across_at new) b' (pixel_at new) (back_across_at new)
-  taken_back_across =
-      back_taken point_eq point_decides (back_across_at old) (back_across_at new) pixel before_b y previous_b filed.across filed.back_across across placed back_across c.across c.back_across c.pixel_there c.pixels
 
   -- the values of the ways that are left
   pixels_left : (n : Label) → pixels_from new (a' n) ≡ listed (pixel_at old) (way (along_at new) end (a' n))
@@ -241,13 +238,11 @@ module _ (old new : List (Option Node)) (a a' : Label → ℕ) (b b' : Point →
   pixels_taken : (p : Point) → point_eq p pixel ≡ false → names_from new (b' p) ≡ names_from old (b p)
   pixels_taken p apart = names_left p ∙ ap (listed (name_at old)) (taken_across.others p apart)
 
-  pub filed_shorter : AreShorter old new a a' b b' name pixel
-  filed_shorter = record {
-    filed = record {
+  pub lists_shorter : AreShorter old new a a' b b' name pixel
+  lists_shorter = record {
+    lists = record {
       along = taken_along.family;
       across = taken_across.family;
-      back_along = taken_back_along;
-      back_across = taken_back_across;
       linked = linked_less name pixel filed.linked segment_taken segments_taken pixel_taken pixels_taken;
     };
     segment = segment_taken;

@@ -12,17 +12,20 @@ use Rattle.pass_links.specs.Links.{is_key, PointsAlong, PointsAcross, TakesAlong
 use Rattle.pass_links.proofs.PlaceLaws.{IsPointed}
 use Rattle.pass_links.proofs.BackLaws.{IsPointedBack}
 
--- the slot at x was written, and the links before and behind it were set in both families
+-- the slot at x was written, and the links to it or past it were set in both families
 pub record Relinks (old new : List (Option Node)) (a a' : Label → ℕ) (b b' : Point → ℕ) (name : Label) (pixel : Point) (x : ℕ) (slot : Option Node)
-    (before_a : Option ℕ) (next_a at_a previous_a : ℕ) (before_b : Option ℕ) (next_b at_b previous_b : ℕ) : Type 0 where
+    (before_a : Option ℕ) (next_a : ℕ) (before_b : Option ℕ) (next_b : ℕ) : Type 0 where
   pub along : IsPointed label_eq (along_at old) a (along_at new) a' x before_a name next_a
   pub across : IsPointed point_eq (across_at old) b (across_at new) b' x before_b pixel next_b
-  pub back_along : IsPointedBack (back_along_at old) (back_along_at new) x at_a previous_a
-  pub back_across : IsPointedBack (back_across_at old) (back_across_at new) x at_b previous_b
   pub names : (k : ℕ) → k ≢ x → name_at new k ≡ name_at old k
   pub pixels : (k : ℕ) → k ≢ x → pixel_at new k ≡ pixel_at old k
   pub name_there : name_at new x ≡ name_of slot
   pub pixel_there : pixel_at new x ≡ pixel_of slot
+
+-- and so were the links back to it or past it
+pub record RelinksBack (old new : List (Option Node)) (x at_a previous_a at_b previous_b : ℕ) : Type 0 where
+  pub along : IsPointedBack (back_along_at old) (back_along_at new) x at_a previous_a
+  pub across : IsPointedBack (back_across_at old) (back_across_at new) x at_b previous_b
 
 -- ---- a node is put between its neighbours
 
@@ -38,7 +41,7 @@ module _ (old s₁ s₂ s₃ s₄ new : List (Option Node)) (a a' : Label → �
     (before_a : Option ℕ) (next_a at_a previous_a : ℕ) (before_b : Option ℕ) (next_b at_b previous_b : ℕ) (u : Changes old s₁ x slot)
     (p : PointsAlong s₁ s₂ a a' name before_a next_a) (v : SetsBackAlong s₂ s₃ at_a previous_a)
     (q : PointsAcross s₃ s₄ b b' pixel before_b next_b) (w : SetsBackAcross s₄ new at_b previous_b) where
-  pub relinks : Relinks old new a a' b b' name pixel x slot before_a next_a at_a previous_a before_b next_b at_b previous_b
+  pub relinks : Relinks old new a a' b b' name pixel x slot before_a next_a before_b next_b
   relinks = record {
     along = record {
       links = λ k apart. w.along k ∙ q.along k ∙ v.along k ∙ p.along k ∙ ap (λ o. cond (is_key before_a k) next_a (along_of o)) (u.others k apart);
@@ -48,15 +51,19 @@ module _ (old s₁ s₂ s₃ s₄ new : List (Option Node)) (a a' : Label → �
       links = λ k apart. w.across k ∙ q.across k ∙ ap (cond (is_key before_b k) next_b) (v.across k ∙ p.across k ∙ ap across_of (u.others k apart));
       starts = q.start;
     };
-    back_along = λ k apart no_end.
-        w.back_along k ∙ q.back_along k ∙ v.back_along k no_end ∙ ap (cond (k == at_a) previous_a) (p.back_along k ∙ ap back_along_of (u.others k apart));
-    back_across = λ k apart no_end.
-        w.back_across k no_end
-        ∙ ap (cond (k == at_b) previous_b) (q.back_across k ∙ v.back_across k ∙ p.back_across k ∙ ap back_across_of (u.others k apart));
     names = λ k apart. w.names k ∙ q.names k ∙ v.names k ∙ p.names k ∙ ap name_of (u.others k apart);
     pixels = λ k apart. w.pixels k ∙ q.pixels k ∙ v.pixels k ∙ p.pixels k ∙ ap pixel_of (u.others k apart);
     name_there = w.names x ∙ q.names x ∙ v.names x ∙ p.names x ∙ ap name_of u.changed;
     pixel_there = w.pixels x ∙ q.pixels x ∙ v.pixels x ∙ p.pixels x ∙ ap pixel_of u.changed;
+  }
+
+  pub relinks_back : RelinksBack old new x at_a previous_a at_b previous_b
+  relinks_back = record {
+    along = λ k apart no_end.
+        w.back_along k ∙ q.back_along k ∙ v.back_along k no_end ∙ ap (cond (k == at_a) previous_a) (p.back_along k ∙ ap back_along_of (u.others k apart));
+    across = λ k apart no_end.
+        w.back_across k no_end
+        ∙ ap (cond (k == at_b) previous_b) (q.back_across k ∙ v.back_across k ∙ p.back_across k ∙ ap back_across_of (u.others k apart));
   }
 
   pub has_links : HasLinks new x slot before_a next_a at_a previous_a before_b next_b at_b previous_b
@@ -121,39 +128,29 @@ restarts same q at next first r = by (same r q)
     by true = refl
     by false = refl
 
-module _ (old s₁ new : List (Option Node)) (a : Label → ℕ) (b : Point → ℕ) (key : ℕ) (node : Node) where
+module _ (old new : List (Option Node)) (a : Label → ℕ) (b : Point → ℕ) (key : ℕ) (node : Node) where
   -- that of a pixel's list
-  pub unlinks_along : (a' : Label → ℕ) → TakesAlong old s₁ a a' key node → SetsBackAcross s₁ new node.next_of_pixel end → (pixel : Point)
+  pub unlinks_along : (a' : Label → ℕ) → TakesAlong old new a a' key node → (pixel : Point)
       → Relinks old new a a' (restarted point_eq pixel key b) (restarted point_eq pixel node.next_of_pixel b) node.name pixel key None
-      (key_of node.previous_of_segment) node.next_of_segment node.next_of_segment node.previous_of_segment None node.next_of_pixel node.next_of_pixel end
-  unlinks_along a' t v pixel = record {
-    along = record { links = λ k apart. v.along k ∙ t.along k apart; starts = t.start };
-    across = record {
-      links = λ k apart. v.across k ∙ t.across k apart;
-      starts = restarts point_eq pixel key node.next_of_pixel b;
-    };
-    back_along = λ k apart no_end. v.back_along k ∙ t.back_along k apart no_end;
-    back_across = λ k apart no_end. v.back_across k no_end ∙ ap (cond (k == node.next_of_pixel) end) (t.back_across k apart);
-    names = λ k apart. v.names k ∙ t.names k apart;
-    pixels = λ k apart. v.pixels k ∙ t.pixels k apart;
-    name_there = v.names key ∙ t.no_name;
-    pixel_there = v.pixels key ∙ t.no_pixel;
+      (key_of node.previous_of_segment) node.next_of_segment None node.next_of_pixel
+  unlinks_along a' t pixel = record {
+    along = record { links = t.along; starts = t.start };
+    across = record { links = t.across; starts = restarts point_eq pixel key node.next_of_pixel b };
+    names = t.names;
+    pixels = t.pixels;
+    name_there = t.no_name;
+    pixel_there = t.no_pixel;
   }
 
   -- that of a segment's list
-  pub unlinks_across : (b' : Point → ℕ) → TakesAcross old s₁ b b' key node → SetsBackAlong s₁ new node.next_of_segment end → (name : Label)
+  pub unlinks_across : (b' : Point → ℕ) → TakesAcross old new b b' key node → (name : Label)
       → Relinks old new (restarted label_eq name key a) (restarted label_eq name node.next_of_segment a) b b' name node.pixel key None
-      None node.next_of_segment node.next_of_segment end (key_of node.previous_of_pixel) node.next_of_pixel node.next_of_pixel node.previous_of_pixel
-  unlinks_across b' t v name = record {
-    along = record {
-      links = λ k apart. v.along k ∙ t.along k apart;
-      starts = restarts label_eq name key node.next_of_segment a;
-    };
-    across = record { links = λ k apart. v.across k ∙ t.across k apart; starts = t.start };
-    back_along = λ k apart no_end. v.back_along k no_end ∙ ap (cond (k == node.next_of_segment) end) (t.back_along k apart);
-    back_across = λ k apart no_end. v.back_across k ∙ t.back_across k apart no_end;
-    names = λ k apart. v.names k ∙ t.names k apart;
-    pixels = λ k apart. v.pixels k ∙ t.pixels k apart;
-    name_there = v.names key ∙ t.no_name;
-    pixel_there = v.pixels key ∙ t.no_pixel;
+      None node.next_of_segment (key_of node.previous_of_pixel) node.next_of_pixel
+  unlinks_across b' t name = record {
+    along = record { links = t.along; starts = restarts label_eq name key node.next_of_segment a };
+    across = record { links = t.across; starts = t.start };
+    names = t.names;
+    pixels = t.pixels;
+    name_there = t.no_name;
+    pixel_there = t.no_pixel;
   }

@@ -1,10 +1,9 @@
 -- The node at a key is made of the links and the pixel there. So a write of both at one key shows there
 -- alone, and pixels behind the last slot don't show.
-use Rattle.std.proofs.Common.{◌≡◌, ◌≢◌, ℕ, zero, suc, pos, ◌-◌, ◌<◌, ◌≤◌, List, [], ◌∷◌, ◌++◌, length, get_or, set, take, Option, None, Some, IsSome, refl, sym, ap, subst, ◌∙◌, true≢false, arith}
-use Rattle.std.proofs.lemmas.List.{get_or-set_same, get_or-set_other, set-get_or, length-take, take_all, take_at}
+use Rattle.std.proofs.Common.{◌≡◌, ℕ, zero, suc, pos, ◌-◌, ◌<◌, ◌≤◌, List, [], ◌∷◌, ◌++◌, length, get_or, set, take, Option, None, Some, IsSome, refl, sym, ap, subst, ◌∙◌, true≢false, arith}
+use Rattle.std.proofs.lemmas.List.{get_or-set_same, get_or-set_other, set-get_or, take_all, take_at}
 use Rattle.grid_core.specs.declared.point.Point.{Point}
 use Rattle.slab.specs.Slab.{Slab, Updates, get, slab_len}
-use Rattle.pass_links.specs.declared.node.Node.{Node}
 use Rattle.pass_links.specs.declared.nodes.Links.{Links}
 use Rattle.pass_links.specs.Nodes.{Slots, stored_at, Changes, node_with, node_of, nodes_of, HasPixels}
 

@@ -18,7 +18,7 @@ use Rattle.pass_links.specs.Passes.{has_name}
 use Rattle.pass_links.specs.Heads.{pixel_start}
 use Rattle.pass_links.specs.Seek.{IsLesser, IsAtName}
 use Rattle.pass_links.proofs.WalkLaws.{Steps, across_step, across_done, not_end, place_stored}
-use Rattle.pass_links.proofs.TestLaws.{or_false, is_equal, point_decides}
+use Rattle.pass_links.proofs.TestLaws.{or_false, point_decides}
 
 pub free_of : (slots : List (Option Node)) (first : Label → ℕ) → IsFamily label_eq (along_at slots) first (name_at slots) end → IsEndFree slots
 free_of slots first lists = unnamed (node_at slots end) refl
@@ -136,8 +136,3 @@ pub found_pixel : (slots : List (Option Node)) (first : Point → ℕ) (pixel : 
 found_pixel slots first pixel name before at lists place found =
     place_stored point_eq point_decides pixel before at lists place
     (λ e. true≢false (sym found ∙ ap (λ k. is_of label_eq name (name_at slots k)) e ∙ ap (λ o. is_of label_eq name (name_of o)) (free_across slots first lists)))
-
--- and the name of that node is the name
-pub found_name : (name : Label) (o : Option Label) → is_of label_eq name o ≡ true → o ≡ Some name
-found_name name None e = absurd (true≢false (sym e))
-found_name name (Some m) e = ap Some (sym (label_exact name m (is_equal _ e)))

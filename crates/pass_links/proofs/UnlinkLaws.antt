@@ -2,7 +2,7 @@
 -- that begins further on, the other passes are as they were, and when the list is empty, no list of the
 -- other family has its key.
 use Rattle.std.proofs.Common.{◌≡◌, ◌≢◌, refl, ap, sym, ◌∙◌, subst, ℕ, ◌<◌, arith, Bool, true, false, not, cond, ◌&&◌, List, [], ◌∷◌, length, Option, None, Some}
-use Rattle.std.specs.Prelude.{filter, IsSome, IfSome}
+use Rattle.std.specs.Prelude.{filter, IsSome}
 use Rattle.std.specs.Bool.{Decides}
 use Rattle.std.specs.List.{list_any}
 use Rattle.grid_core.specs.declared.point.Point.{Point}
@@ -11,20 +11,18 @@ use Rattle.grid_core.specs.Name.{Label, label_eq}
 use Rattle.grid_core.proofs.Order.{point_exact, label_exact}
 use Rattle.pass_links.specs.declared.node.Node.{Node}
 use Rattle.pass_links.specs.Passes.{PassLists, pixels_of, names_at, has_pixel, has_name, without_pixel, without_name, AreLinked}
-use Rattle.pass_links.specs.Chain.{end, way, IsWay, IsPlace, key_of, listed}
-use Rattle.pass_links.specs.Node.{along_of, across_of, back_along_of, back_across_of, name_of, pixel_of, node_at, along_at, across_at, name_at, pixel_at, SetsBackAlong, SetsBackAcross}
+use Rattle.pass_links.specs.Chain.{end, way, IsWay, IsPlace, key_of, LinksBack, listed}
+use Rattle.pass_links.specs.Node.{along_of, across_of, back_along_of, back_across_of, name_of, pixel_of, node_at, along_at, across_at, back_along_at, back_across_at, name_at, pixel_at}
 use Rattle.pass_links.specs.Lists.{pixels_from, names_from}
 use Rattle.pass_links.specs.Links.{TakesAlong, TakesAcross}
 use Rattle.pass_links.specs.Filing.{AreFiled}
 use Rattle.pass_links.proofs.ChainLaws.{way_end}
 use Rattle.pass_links.proofs.TestLaws.{itself, is_equal, point_decides, label_decides, none_left, any_left, filter_length}
-use Rattle.pass_links.proofs.FamilyLaws.{next_stored}
-use Rattle.pass_links.proofs.PlaceLaws.{behind_other}
 use Rattle.pass_links.proofs.WalkLaws.{place_stored, along_step, across_step, has_node, has_node_at, ended}
-use Rattle.pass_links.proofs.BackLaws.{at_stored}
+use Rattle.pass_links.proofs.BackLaws.{IsPointedBack, LinksBackBut, back_taken, back_beside, back_all}
 use Rattle.pass_links.proofs.SeekLaws.{free_of}
 use Rattle.pass_links.proofs.NodeLaws.{Relinks, restarted, unlinks_along, unlinks_across}
-use Rattle.pass_links.proofs.FilingLaws.{AreShorter, filed_shorter}
+use Rattle.pass_links.proofs.FilingLaws.{AreListed, AreShorter, lists_shorter}
 
 and_false : (b : Bool) → (b && false) ≡ false
 and_false true = refl
@@ -69,7 +67,9 @@ module _ {V : Type 0} (same : V → V → Bool) (decides : (a b : V) → Decides
 
 -- some passes of the pixel were unlinked, and no others: what is left of its list begins at `at`
 pub record UnlinksPixel (pixel : Point) (old : PassLists) (slots : List (Option Node)) (a : Label → ℕ) (b : Point → ℕ) (at : ℕ) : Type 0 where
-  pub lists : AreFiled slots a (restarted point_eq pixel at b)
+  pub lists : AreListed slots a (restarted point_eq pixel at b)
+  pub back_along : LinksBack (along_at slots) a (name_at slots) (back_along_at slots)
+  pub back_across : LinksBackBut point_eq pixel (across_at slots) b (pixel_at slots) (back_across_at slots)
   pub segments : (n : Label) → without_pixel pixel (pixels_from slots (a n)) ≡ without_pixel pixel (pixels_of old n)
   pub pixels : (p : Point) → point_eq p pixel ≡ false → names_from slots (b p) ≡ names_at old p
 
@@ -85,7 +85,11 @@ module _ (pixel : Point) (old : PassLists) where
   pub pixel_begun : (slots : List (Option Node)) (a : Label → ℕ) (b : Point → ℕ) (at : ℕ) → AreFiled slots a b → at ≡ b pixel
       → ((n : Label) → pixels_of old n ≡ pixels_from slots (a n)) → ((p : Point) → names_at old p ≡ names_from slots (b p)) → UnlinksPixel pixel old slots a b at
   pixel_begun slots a b at filed first was had = record {
-    lists = subst (AreFiled slots a) (sym (restarted_itself point_eq point_decides pixel at b first)) filed;
+    lists =
+        subst (AreListed slots a) (sym (restarted_itself point_eq point_decides pixel at b first))
+        (record { along = filed.along; across = filed.across; linked = filed.linked });
+    back_along = filed.back_along;
+    back_across = λ k r _ e. filed.back_across k r e;
     segments = λ n. ap (without_pixel pixel) (sym (was n));
     pixels = λ p apart. sym (had p);
   }
@@ -98,22 +102,9 @@ module _ (pixel : Point) (old : PassLists) where
     pub pixel_first_stored : IsSome (node_at slots key)
     pixel_first_stored = has_node_at slots key pixel pixel_owned
 
-  -- and the next
-  pub pixel_next_stored : (slots s₁ : List (Option Node)) (a a' : Label → ℕ) (b : Point → ℕ) (key : ℕ) (node : Node) → UnlinksPixel pixel old slots a b key
-      → key ≢ end → node_at slots key ≡ Some node → TakesAlong slots s₁ a a' key node → IfSome (key_of node.next_of_pixel) (λ k. IsSome (node_at s₁ k))
-  pixel_next_stored slots s₁ a a' b key node h apart stored takes =
-      let first = pixel_owned slots a b key h apart in
-      let behind : across_at slots key ≡ node.next_of_pixel = ap across_of stored in
-      at_stored (λ k. IsSome (node_at s₁ k)) node.next_of_pixel
-      (λ more. has_node_at s₁ node.next_of_pixel pixel
-      (takes.pixels node.next_of_pixel (λ e. behind_other point_eq point_decides pixel key node.next_of_pixel h.lists.across first behind (sym e))
-      ∙ subst (λ k. pixel_at slots k ≡ Some pixel) behind
-      (ended point_eq point_decides (across_at slots key) (across_at slots key) refl (λ e. more (sym behind ∙ e))
-      (next_stored point_eq point_decides pixel key h.lists.across first))))
-
-  module _ (slots s₁ next : List (Option Node)) (a a' : Label → ℕ) (b : Point → ℕ) (key : ℕ) (node : Node)
+  module _ (slots next : List (Option Node)) (a a' : Label → ℕ) (b : Point → ℕ) (key : ℕ) (node : Node)
       (h : UnlinksPixel pixel old slots a b key) (apart : key ≢ end) (stored : node_at slots key ≡ Some node)
-      (takes : TakesAlong slots s₁ a a' key node) (sets : SetsBackAcross s₁ next node.next_of_pixel end) where
+      (takes : TakesAlong slots next a a' key node) where
     -- what is left of the list, before and after
     abbrev pixel_rest : Point → ℕ
     pixel_rest = restarted point_eq pixel key b
@@ -124,26 +115,33 @@ module _ (pixel : Point) (old : PassLists) where
     pixel_in_other : IsPlace (along_at slots) a (name_at slots) node.name (key_of node.previous_of_segment) key
     pixel_in_other =
         subst (λ k. IsPlace (along_at slots) a (name_at slots) node.name (key_of k) key) (ap back_along_of stored)
-        (h.lists.back_along key node.name (ap name_of stored))
+        (h.back_along key node.name (ap name_of stored))
 
-    pixel_relinked : Relinks slots next a a' pixel_rest pixel_rest' node.name pixel key None (key_of node.previous_of_segment) (along_at slots key) (along_at slots key) node.previous_of_segment
-        None (across_at slots key) (across_at slots key) end
+    pixel_relinked : Relinks slots next a a' pixel_rest pixel_rest' node.name pixel key None (key_of node.previous_of_segment) (along_at slots key) None (across_at slots key)
     pixel_relinked =
-        subst (λ k. Relinks slots next a a' pixel_rest pixel_rest' node.name pixel key None (key_of node.previous_of_segment) k k node.previous_of_segment
-        None (across_at slots key) (across_at slots key) end) (sym (ap along_of stored))
-        (subst (λ k. Relinks slots next a a' pixel_rest pixel_rest' node.name pixel key None (key_of node.previous_of_segment) node.next_of_segment node.next_of_segment node.previous_of_segment
-        None k k end) (sym (ap across_of stored))
-        (unlinks_along slots s₁ next a b key node a' takes sets pixel))
+        subst (λ k. Relinks slots next a a' pixel_rest pixel_rest' node.name pixel key None (key_of node.previous_of_segment) k None (across_at slots key)) (sym (ap along_of stored))
+        (subst (λ k. Relinks slots next a a' pixel_rest pixel_rest' node.name pixel key None (key_of node.previous_of_segment) node.next_of_segment None k) (sym (ap across_of stored)) (unlinks_along slots next a b key node a' takes pixel))
 
     pixel_shorter : AreShorter slots next a a' pixel_rest pixel_rest' node.name pixel
     pixel_shorter =
-        filed_shorter slots next a a' pixel_rest pixel_rest' node.name pixel key (key_of node.previous_of_segment) node.previous_of_segment None end h.lists
-        (ap name_of stored) (pixel_owned slots a b key h apart) pixel_in_other (begins point_eq point_decides pixel key b) refl refl pixel_relinked
+        lists_shorter slots next a a' pixel_rest pixel_rest' node.name pixel key (key_of node.previous_of_segment) None h.lists
+        (ap name_of stored) (pixel_owned slots a b key h apart) pixel_in_other (begins point_eq point_decides pixel key b) pixel_relinked
+
+    -- the links back that were set
+    pixel_set_back : IsPointedBack (back_along_at slots) (back_along_at next) key (along_at slots key) node.previous_of_segment
+    pixel_set_back =
+        subst (λ k. IsPointedBack (back_along_at slots) (back_along_at next) key k node.previous_of_segment) (sym (ap along_of stored)) takes.back_along
 
     -- one more pass is unlinked
     pub pixel_more : UnlinksPixel pixel old next a' b node.next_of_pixel
     pixel_more = record {
-      lists = pixel_shorter.filed;
+      lists = pixel_shorter.lists;
+      back_along =
+          back_taken label_eq label_decides (back_along_at slots) (back_along_at next) node.name (key_of node.previous_of_segment) key node.previous_of_segment
+          h.lists.along h.back_along pixel_in_other (ap name_of stored) refl pixel_relinked.along pixel_set_back takes.no_name takes.names;
+      back_across =
+          back_beside point_eq point_decides b (back_across_at slots) (back_across_at next) pixel key h.back_across (pixel_owned slots a b key h apart) takes.no_pixel
+          takes.across takes.back_across takes.pixels;
       segments = λ n. by n (label_eq n node.name) refl ∙ h.segments n;
       pixels = λ p other.
           ap (names_from next) (sym (begins_still point_eq point_decides pixel p node.next_of_pixel b other)) ∙ pixel_shorter.pixels p other
@@ -172,13 +170,21 @@ module _ (pixel : Point) (old : PassLists) where
   pub pixel_done : (slots : List (Option Node)) (a : Label → ℕ) (b b' : Point → ℕ) (at : ℕ) → UnlinksPixel pixel old slots a b at → at ≡ end
       → ((p : Point) → b' p ≡ cond (point_eq p pixel) end (b p)) → IsWithoutPixel pixel old slots a b'
   pixel_done slots a b b' at h ended starts =
-      let filed : AreFiled slots a b' =
-      subst (AreFiled slots a) (λ i p. (ap (λ k. cond (point_eq p pixel) k (b p)) ended ∙ sym (starts p)) i) h.lists in
+      let listed_now : AreListed slots a b' =
+      subst (AreListed slots a) (λ i p. (ap (λ k. cond (point_eq p pixel) k (b p)) ended ∙ sym (starts p)) i) h.lists in
       let none : names_from slots (b' pixel) ≡ [] =
       ap (names_from slots) (starts pixel ∙ begins point_eq point_decides pixel end b) ∙ ap (listed (name_at slots)) (way_end (across_at slots) end) in
       record {
-        lists = filed;
-        segments = λ n. sym (none_left point_eq point_decides pixel (pixels_from slots (a n)) (filed.linked.agree n pixel ∙ ap (λ ns. has_name ns n) none)) ∙ h.segments n;
+        lists = record {
+          along = listed_now.along;
+          across = listed_now.across;
+          back_along = h.back_along;
+          back_across =
+              back_all point_eq point_decides (back_across_at slots) pixel h.back_across listed_now.across (starts pixel ∙ begins point_eq point_decides pixel end b)
+              (λ p other. starts p ∙ begins_still point_eq point_decides pixel p end b other);
+          linked = listed_now.linked;
+        };
+        segments = λ n. sym (none_left point_eq point_decides pixel (pixels_from slots (a n)) (listed_now.linked.agree n pixel ∙ ap (λ ns. has_name ns n) none)) ∙ h.segments n;
         none = none;
         pixels = λ p other. ap (names_from slots) (starts p ∙ begins_still point_eq point_decides pixel p end b other) ∙ h.pixels p other;
       }
@@ -191,7 +197,9 @@ module _ (pixel : Point) (old : PassLists) where
 
 -- some passes of the segment were unlinked, and no others: what is left of its list begins at `at`
 pub record UnlinksSegment (name : Label) (old : PassLists) (slots : List (Option Node)) (a : Label → ℕ) (b : Point → ℕ) (at : ℕ) : Type 0 where
-  pub lists : AreFiled slots (restarted label_eq name at a) b
+  pub lists : AreListed slots (restarted label_eq name at a) b
+  pub back_across : LinksBack (across_at slots) b (pixel_at slots) (back_across_at slots)
+  pub back_along : LinksBackBut label_eq name (along_at slots) a (name_at slots) (back_along_at slots)
   pub pixels : (p : Point) → without_name name (names_from slots (b p)) ≡ without_name name (names_at old p)
   pub segments : (n : Label) → label_eq n name ≡ false → pixels_from slots (a n) ≡ pixels_of old n
 
@@ -207,7 +215,11 @@ module _ (name : Label) (old : PassLists) where
   pub segment_begun : (slots : List (Option Node)) (a : Label → ℕ) (b : Point → ℕ) (at : ℕ) → AreFiled slots a b → at ≡ a name
       → ((n : Label) → pixels_of old n ≡ pixels_from slots (a n)) → ((p : Point) → names_at old p ≡ names_from slots (b p)) → UnlinksSegment name old slots a b at
   segment_begun slots a b at filed first was had = record {
-    lists = subst (λ s. AreFiled slots s b) (sym (restarted_itself label_eq label_decides name at a first)) filed;
+    lists =
+        subst (λ s. AreListed slots s b) (sym (restarted_itself label_eq label_decides name at a first))
+        (record { along = filed.along; across = filed.across; linked = filed.linked });
+    back_across = filed.back_across;
+    back_along = λ k r _ e. filed.back_along k r e;
     pixels = λ p. ap (without_name name) (sym (had p));
     segments = λ n apart. sym (was n);
   }
@@ -220,22 +232,9 @@ module _ (name : Label) (old : PassLists) where
     pub segment_first_stored : IsSome (node_at slots key)
     segment_first_stored = has_node slots key name segment_owned
 
-  -- and the next
-  pub segment_next_stored : (slots s₁ : List (Option Node)) (a : Label → ℕ) (b b' : Point → ℕ) (key : ℕ) (node : Node) → UnlinksSegment name old slots a b key
-      → key ≢ end → node_at slots key ≡ Some node → TakesAcross slots s₁ b b' key node → IfSome (key_of node.next_of_segment) (λ k. IsSome (node_at s₁ k))
-  segment_next_stored slots s₁ a b b' key node h apart stored takes =
-      let first = segment_owned slots a b key h apart in
-      let behind : along_at slots key ≡ node.next_of_segment = ap along_of stored in
-      at_stored (λ k. IsSome (node_at s₁ k)) node.next_of_segment
-      (λ more. has_node s₁ node.next_of_segment name
-      (takes.names node.next_of_segment (λ e. behind_other label_eq label_decides name key node.next_of_segment h.lists.along first behind (sym e))
-      ∙ subst (λ k. name_at slots k ≡ Some name) behind
-      (ended label_eq label_decides (along_at slots key) (along_at slots key) refl (λ e. more (sym behind ∙ e))
-      (next_stored label_eq label_decides name key h.lists.along first))))
-
-  module _ (slots s₁ next : List (Option Node)) (a : Label → ℕ) (b b' : Point → ℕ) (key : ℕ) (node : Node)
+  module _ (slots next : List (Option Node)) (a : Label → ℕ) (b b' : Point → ℕ) (key : ℕ) (node : Node)
       (h : UnlinksSegment name old slots a b key) (apart : key ≢ end) (stored : node_at slots key ≡ Some node)
-      (takes : TakesAcross slots s₁ b b' key node) (sets : SetsBackAlong s₁ next node.next_of_segment end) where
+      (takes : TakesAcross slots next b b' key node) where
     -- what is left of the list, before and after
     abbrev segment_rest : Label → ℕ
     segment_rest = restarted label_eq name key a
@@ -246,26 +245,33 @@ module _ (name : Label) (old : PassLists) where
     segment_in_other : IsPlace (across_at slots) b (pixel_at slots) node.pixel (key_of node.previous_of_pixel) key
     segment_in_other =
         subst (λ k. IsPlace (across_at slots) b (pixel_at slots) node.pixel (key_of k) key) (ap back_across_of stored)
-        (h.lists.back_across key node.pixel (ap pixel_of stored))
+        (h.back_across key node.pixel (ap pixel_of stored))
 
-    segment_relinked : Relinks slots next segment_rest segment_rest' b b' name node.pixel key None None (along_at slots key) (along_at slots key) end
-        (key_of node.previous_of_pixel) (across_at slots key) (across_at slots key) node.previous_of_pixel
+    segment_relinked : Relinks slots next segment_rest segment_rest' b b' name node.pixel key None None (along_at slots key) (key_of node.previous_of_pixel) (across_at slots key)
     segment_relinked =
-        subst (λ k. Relinks slots next segment_rest segment_rest' b b' name node.pixel key None None k k end
-        (key_of node.previous_of_pixel) (across_at slots key) (across_at slots key) node.previous_of_pixel) (sym (ap along_of stored))
-        (subst (λ k. Relinks slots next segment_rest segment_rest' b b' name node.pixel key None None node.next_of_segment node.next_of_segment end
-        (key_of node.previous_of_pixel) k k node.previous_of_pixel) (sym (ap across_of stored))
-        (unlinks_across slots s₁ next a b key node b' takes sets name))
+        subst (λ k. Relinks slots next segment_rest segment_rest' b b' name node.pixel key None None k (key_of node.previous_of_pixel) (across_at slots key)) (sym (ap along_of stored))
+        (subst (λ k. Relinks slots next segment_rest segment_rest' b b' name node.pixel key None None node.next_of_segment (key_of node.previous_of_pixel) k) (sym (ap across_of stored)) (unlinks_across slots next a b key node b' takes name))
 
     segment_shorter : AreShorter slots next segment_rest segment_rest' b b' name node.pixel
     segment_shorter =
-        filed_shorter slots next segment_rest segment_rest' b b' name node.pixel key None end (key_of node.previous_of_pixel) node.previous_of_pixel h.lists
-        (segment_owned slots a b key h apart) (ap pixel_of stored) (begins label_eq label_decides name key a) segment_in_other refl refl segment_relinked
+        lists_shorter slots next segment_rest segment_rest' b b' name node.pixel key None (key_of node.previous_of_pixel) h.lists
+        (segment_owned slots a b key h apart) (ap pixel_of stored) (begins label_eq label_decides name key a) segment_in_other segment_relinked
+
+    -- the links back that were set
+    segment_set_back : IsPointedBack (back_across_at slots) (back_across_at next) key (across_at slots key) node.previous_of_pixel
+    segment_set_back =
+        subst (λ k. IsPointedBack (back_across_at slots) (back_across_at next) key k node.previous_of_pixel) (sym (ap across_of stored)) takes.back_across
 
     -- one more pass is unlinked
     pub segment_more : UnlinksSegment name old next a b' node.next_of_segment
     segment_more = record {
-      lists = segment_shorter.filed;
+      lists = segment_shorter.lists;
+      back_across =
+          back_taken point_eq point_decides (back_across_at slots) (back_across_at next) node.pixel (key_of node.previous_of_pixel) key node.previous_of_pixel
+          h.lists.across h.back_across segment_in_other (ap pixel_of stored) refl segment_relinked.across segment_set_back takes.no_pixel takes.pixels;
+      back_along =
+          back_beside label_eq label_decides a (back_along_at slots) (back_along_at next) name key h.back_along (segment_owned slots a b key h apart) takes.no_name
+          takes.along takes.back_along takes.names;
       pixels = λ p. by p (point_eq p node.pixel) refl ∙ h.pixels p;
       segments = λ n other.
           ap (pixels_from next) (sym (begins_still label_eq label_decides name n node.next_of_segment a other)) ∙ segment_shorter.segments n other
@@ -294,13 +300,21 @@ module _ (name : Label) (old : PassLists) where
   pub segment_done : (slots : List (Option Node)) (a a' : Label → ℕ) (b : Point → ℕ) (at : ℕ) → UnlinksSegment name old slots a b at → at ≡ end
       → ((n : Label) → a' n ≡ cond (label_eq n name) end (a n)) → IsWithoutSegment name old slots a' b
   segment_done slots a a' b at h ended starts =
-      let filed : AreFiled slots a' b =
-      subst (λ s. AreFiled slots s b) (λ i n. (ap (λ k. cond (label_eq n name) k (a n)) ended ∙ sym (starts n)) i) h.lists in
+      let listed_now : AreListed slots a' b =
+      subst (λ s. AreListed slots s b) (λ i n. (ap (λ k. cond (label_eq n name) k (a n)) ended ∙ sym (starts n)) i) h.lists in
       let none : pixels_from slots (a' name) ≡ [] =
       ap (pixels_from slots) (starts name ∙ begins label_eq label_decides name end a) ∙ ap (listed (pixel_at slots)) (way_end (along_at slots) end) in
       record {
-        lists = filed;
-        pixels = λ p. sym (none_left label_eq label_decides name (names_from slots (b p)) (sym (filed.linked.agree name p) ∙ ap (λ ps. has_pixel ps p) none)) ∙ h.pixels p;
+        lists = record {
+          along = listed_now.along;
+          across = listed_now.across;
+          back_across = h.back_across;
+          back_along =
+              back_all label_eq label_decides (back_along_at slots) name h.back_along listed_now.along (starts name ∙ begins label_eq label_decides name end a)
+              (λ n other. starts n ∙ begins_still label_eq label_decides name n end a other);
+          linked = listed_now.linked;
+        };
+        pixels = λ p. sym (none_left label_eq label_decides name (names_from slots (b p)) (sym (listed_now.linked.agree name p) ∙ ap (λ ps. has_pixel ps p) none)) ∙ h.pixels p;
         none = none;
         segments = λ n other. ap (pixels_from slots) (starts n ∙ begins_still label_eq label_decides name n end a other) ∙ h.segments n other;
       }

@@ -33,7 +33,8 @@ pub record PointsAcross (old new : List (Option Node)) (old_start new_start : Po
   pub pixels : (k : ℕ) → pixel_at new k ≡ pixel_at old k
   pub start : (p : Point) → new_start p ≡ cond (not (is_some before) && point_eq p pixel) next (old_start p)
 
--- the node at the key is taken out of its segment's list and out of the store; the other list has its links still
+-- the node at the key is gone, and its neighbours in its segment's list are linked to each other; in its pixel's
+-- list no link is set
 pub record TakesAlong (old new : List (Option Node)) (old_start new_start : Label → ℕ) (key : ℕ) (node : Node) : Type 0 where
   pub along : (k : ℕ) → k ≢ key → along_at new k ≡ cond (is_key (key_of node.previous_of_segment) k) node.next_of_segment (along_at old k)
   pub back_along : (k : ℕ) → k ≢ key → k ≢ end → back_along_at new k ≡ cond (k == node.next_of_segment) node.previous_of_segment (back_along_at old k)
@@ -45,7 +46,8 @@ pub record TakesAlong (old new : List (Option Node)) (old_start new_start : Labe
   pub no_pixel : pixel_at new key ≡ None
   pub start : (n : Label) → new_start n ≡ cond (not (is_some (key_of node.previous_of_segment)) && label_eq n node.name) node.next_of_segment (old_start n)
 
--- the node at the key is taken out of its pixel's list and out of the store; the other list has its links still
+-- the node at the key is gone, and its neighbours in its pixel's list are linked to each other; in its segment's
+-- list no link is set
 pub record TakesAcross (old new : List (Option Node)) (old_start new_start : Point → ℕ) (key : ℕ) (node : Node) : Type 0 where
   pub across : (k : ℕ) → k ≢ key → across_at new k ≡ cond (is_key (key_of node.previous_of_pixel) k) node.next_of_pixel (across_at old k)
   pub back_across : (k : ℕ) → k ≢ key → k ≢ end → back_across_at new k ≡ cond (k == node.next_of_pixel) node.previous_of_pixel (back_across_at old k)

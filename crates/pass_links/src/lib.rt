@@ -1,7 +1,7 @@
 //! Passes of segments through hot pixels: for each segment the list of its pixels, and for each
 //! pixel the list of the names of its segments.
 //!
-//! Each pass is one node of two linked lists. Nodes lie in a store, and a link is the key of a node.
+//! Each pass is one node of two linked lists. Nodes lie in a slab, and a link is the key of a node.
 //! With 1.1 through (0,0) and (3,1), and 1.2 through (3,1) and (5,2):
 //!
 //! ```text
@@ -9,31 +9,32 @@
 //!                            |               |               |
 //!   segments                 v               v               |
 //!                        .-------.       .-------.           |
-//!        1.1  ---------> | 1.1   | ----> | 1.1   | ----> end |
+//!        1.1  ---------> | 1.1   | <---> | 1.1   |           |
 //!                        | (0,0) |       | (3,1) |           |
 //!                        '-------'       '-------'           |
-//!                            |               |               |
-//!                           end              v               v
+//!                                            ^               |
+//!                                            |               |
+//!                                            v               v
 //!                                        .-------.       .-------.
-//!        1.2  -------------------------> | 1.2   | ----> | 1.2   | ----> end
+//!        1.2  -------------------------> | 1.2   | <---> | 1.2   |
 //!                                        | (3,1) |       | (5,2) |
 //!                                        '-------'       '-------'
-//!                                            |               |
-//!                                           end             end
 //!
-//!   ---->  along: the segment's next node, in the order of its list
-//!     |    across: the pixel's next node, in the order of names
+//!   <--->  along: the segment's next node, in the order of its list, and back
+//!     ^
+//!     |    across: the pixel's next node, in the order of names, and back
 //!     v
 //! ```
 //!
-//! A list is found by binary search among the heads, and walked by links. A pass is linked or
-//! unlinked by setting two links, after a walk across its pixel's list, and to link behind a pixel
-//! across that one's too; these lists are short. To unlink a pass that isn't the first of its
-//! segment, the segment's list is walked up to it. A segment or a pixel whose list begins, or
-//! becomes empty, moves the heads behind its own.
+//! A list is found by binary search among the heads, and walked by links. To link a pass, its
+//! pixel's list is walked up to its place, and where it goes behind a pixel, that one's too; these
+//! lists are short. To unlink the passes of a pixel, its own list is walked and no other: each node
+//! is taken out of its segment's list by the links of its two neighbours there, or where it is the
+//! first, by the head. So too for a segment. A segment or a pixel whose list begins, or becomes
+//! empty, moves the heads behind its own.
 //!
-//! A node takes 32 bytes, and 40 with the store's tag; the head of a segment takes 8, that of a
-//! pixel 24. A copy is three blocks of memory.
+//! A node takes 40 bytes: 24 in the slab, its name, its four links and the slab's tag, and 16 beside
+//! for its pixel. The head of a segment takes 8, that of a pixel 24. A copy is four blocks of memory.
 
 #![tactic(auto)]
 

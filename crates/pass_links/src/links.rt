@@ -1,5 +1,5 @@
 //! What comes behind a node, or first, in the lists of segments and pixels; a node put at its place
-//! in both; and a node taken out of one.
+//! in both, and one taken out of one of them.
 ghost use Rattle.std.specs.Prelude.{◌≡◌, ◌+◌, ◌<◌, ◌≤◌, IfSome, IsSome, Option, Some, false};
 ghost use Rattle.std.specs.Vec.{vec_len, vec_capacity};
 ghost use Rattle.grid_core.specs.Name.{label_cmp, label_eq};
@@ -133,8 +133,9 @@ pub(crate) fn link_at(
     key
 }
 
-/// Takes the node at `key` out of its segment's list and out of the store, and gives it. Its
-/// neighbours in its pixel's list are as they were. Takes no memory.
+/// Takes out the node at `key`, and gives it. Its neighbours in its segment's list are linked to each
+/// other; those in its pixel's list are as they were, for a caller that takes out all of that list.
+/// Takes no memory.
 pub(crate) fn take_along(nodes: &mut Nodes, segments: &mut Vec<Head<Name>>, key: u32) -> Node
     requires by_name { Rise label_cmp segments.old.items }
     requires lists { IsFamily label_eq (along_at nodes.old.slots)
@@ -158,8 +159,9 @@ pub(crate) fn take_along(nodes: &mut Nodes, segments: &mut Vec<Head<Name>>, key:
     node
 }
 
-/// Takes the node at `key` out of its pixel's list and out of the store, and gives it. Its
-/// neighbours in its segment's list are as they were. Takes no memory.
+/// Takes out the node at `key`, and gives it. Its neighbours in its pixel's list are linked to each
+/// other; those in its segment's list are as they were, for a caller that takes out all of that list.
+/// Takes no memory.
 pub(crate) fn take_across(nodes: &mut Nodes, pixels: &mut Vec<Head<Point>>, key: u32) -> Node
     requires by_pixel { Rise point_cmp pixels.old.items }
     requires lists { IsFamily point_eq (across_at nodes.old.slots)

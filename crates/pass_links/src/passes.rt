@@ -9,7 +9,6 @@ ghost use Rattle.pass_links.specs.Passes.{linked_behind, run_behind, AreFresh, w
 use crate::heads::{Head, find, set_first};
 use crate::links::{link_at, take_across, take_along};
 use crate::lists::{Across, Along};
-use crate::node::{set_back_across, set_back_along};
 use crate::nodes::{END, Nodes};
 use crate::room::{copied, room_left};
 use crate::seek::{Before, Seek, seek_across, seek_behind};
@@ -208,7 +207,6 @@ impl Passes {
         let mut at = head.first;
         while at != END {
             let node = take_along(&mut self.nodes, &mut self.segments, at);
-            set_back_across(&mut self.nodes, node.next_of_pixel, END);
             at = node.next_of_pixel;
         }
         set_first(&mut self.pixels, pixel, head.place, END);
@@ -231,7 +229,6 @@ impl Passes {
         let mut at = head.first;
         while at != END {
             let node = take_across(&mut self.nodes, &mut self.pixels, at);
-            set_back_along(&mut self.nodes, node.next_of_segment, END);
             at = node.next_of_segment;
         }
         set_first(&mut self.segments, name, head.place, END);

@@ -12,7 +12,6 @@ ghost use Rattle.pass_links.specs.Seek.{IsLesser, IsAtName, IsThrough, node_befo
 ghost use Rattle.pass_links.specs.Filing.{AreFiled};
 
 use crate::heads::{Head, find};
-use crate::node::Node;
 use crate::nodes::{END, Nodes};
 use crate::owner::Owner;
 use grid_core::{Name, Point};
@@ -26,15 +25,6 @@ pub(crate) enum Before {
     Node(u32),
 }
 
-/// A place in a list.
-#[derive(Clone, Copy)]
-pub(crate) struct Seek {
-    /// What comes before it.
-    pub(crate) before: Before,
-    /// The key of the node there, or `END`.
-    pub(crate) at: u32,
-}
-
 impl Before {
     /// The link to it: the key of the node, or `END` for the list's head.
     pub(crate) fn link(self) -> u32
@@ -45,6 +35,15 @@ impl Before {
             Before::Node(key) => key,
         }
     }
+}
+
+/// A place in a list.
+#[derive(Clone, Copy)]
+pub(crate) struct Seek {
+    /// What comes before it.
+    pub(crate) before: Before,
+    /// The key of the node there, or `END`.
+    pub(crate) at: u32,
 }
 
 /// What comes before a node with this link back, in the list of this segment or pixel.

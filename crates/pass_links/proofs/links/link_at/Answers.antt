@@ -15,7 +15,7 @@ use Rattle.pass_links.proofs.ValueLaws.{greater_at}
 use Rattle.pass_links.proofs.BackLaws.{place_link, at_stored}
 use Rattle.pass_links.proofs.PlaceLaws.{labelled}
 use Rattle.pass_links.proofs.WalkLaws.{has_node, has_node_at, place_stored}
-use Rattle.pass_links.proofs.NodeLaws.{relinks, has_links}
+use Rattle.pass_links.proofs.NodeLaws.{relinks, relinks_back, has_links}
 use Rattle.pass_links.proofs.FilingLaws.{filed_longer}
 use Rattle.pass_links.proofs.links.link_at.Goals as goal
 use Rattle.pass_links.proofs.links.link_at.Goals.{After-seek_across-across}
@@ -56,6 +56,13 @@ returns-clause-lists c =
       fresh = c.requires.fresh;
     })
     (relinks c.args.nodes.now.slots c.insert-key.new.self.slots c.point_along.new.nodes.slots c.set_back_along.new.nodes.slots
+    c.point_across.new.nodes.slots c.set_back_across.new.nodes.slots
+    (segment_start c.args.segments.now.items) (segment_start c.point_along.new.segments.items)
+    (pixel_start c.args.pixels.now.items) (pixel_start c.point_across.new.pixels.items) c.args.name c.args.pixel c.insert-key.result _
+    (node_before c.args.place.before) c.insert-key.result c.args.place.at c.insert-key.result
+    (node_before c.seek_across-across.result.before) c.insert-key.result c.seek_across-across.result.at c.insert-key.result
+    c.insert-key.ensures.changes c.point_along.ensures.points c.set_back_along.ensures.links c.point_across.ensures.points c.set_back_across.ensures.links)
+    (relinks_back c.args.nodes.now.slots c.insert-key.new.self.slots c.point_along.new.nodes.slots c.set_back_along.new.nodes.slots
     c.point_across.new.nodes.slots c.set_back_across.new.nodes.slots
     (segment_start c.args.segments.now.items) (segment_start c.point_along.new.segments.items)
     (pixel_start c.args.pixels.now.items) (pixel_start c.point_across.new.pixels.items) c.args.name c.args.pixel c.insert-key.result _

@@ -9,7 +9,7 @@ use Rattle.pass_links.specs.Heads.{segment_start, pixel_start}
 use Rattle.pass_links.specs.Passes.{PassLists, pixels_of, names_at}
 use Rattle.pass_links.proofs.ChainLaws.{way_end}
 use Rattle.pass_links.proofs.SeenLaws.{seen, seen_pixels, seen_names, seen_linked}
-use Rattle.pass_links.proofs.UnlinkLaws.{IsWithoutPixel, pixel_begun, pixel_first_stored, pixel_next_stored, pixel_more, pixel_fewer, pixel_done, pixel_none}
+use Rattle.pass_links.proofs.UnlinkLaws.{IsWithoutPixel, pixel_begun, pixel_first_stored, pixel_more, pixel_fewer, pixel_done, pixel_none}
 use Rattle.pass_links.proofs.passes.Passes.unlink_pixel.Goals as goal
 use Rattle.pass_links.proofs.passes.Passes.unlink_pixel.Goals.{After-find-head, After-set_first}
 
@@ -52,26 +52,21 @@ pub take_along-node-requires-clause-stored : goal.take_along-node-requires-claus
 take_along-node-requires-clause-stored c =
     pixel_first_stored c.args.pixel c.args.self.now c.loop-at.self-inside.nodes.slots (segment_start c.loop-at.self-inside.segments.items) (pixel_start c.loop-at.self-inside.pixels.items) c.loop-at.at c.loop-at.invariant.lists c.loop-at-test.true
 
-pub set_back_across-requires : goal.set_back_across-requires
-set_back_across-requires c =
-    pixel_next_stored c.args.pixel c.args.self.now c.loop-at.self-inside.nodes.slots c.take_along-node.new.nodes.slots (segment_start c.loop-at.self-inside.segments.items) (segment_start c.take_along-node.new.segments.items) (pixel_start c.loop-at.self-inside.pixels.items) c.loop-at.at c.take_along-node.result
-    c.loop-at.invariant.lists c.loop-at-test.true c.take_along-node.ensures.node c.take_along-node.ensures.takes
-
 pub loop-at-smaller : goal.loop-at-smaller
 loop-at-smaller c =
-    pixel_fewer c.args.pixel c.args.self.now c.loop-at.self-inside.nodes.slots c.take_along-node.new.nodes.slots c.set_back_across.new.nodes.slots (segment_start c.loop-at.self-inside.segments.items) (segment_start c.take_along-node.new.segments.items) (pixel_start c.loop-at.self-inside.pixels.items) c.loop-at.at c.take_along-node.result
-    c.loop-at.invariant.lists c.loop-at-test.true c.take_along-node.ensures.node c.take_along-node.ensures.takes c.set_back_across.ensures.links
+    pixel_fewer c.args.pixel c.args.self.now c.loop-at.self-inside.nodes.slots c.take_along-node.new.nodes.slots (segment_start c.loop-at.self-inside.segments.items) (segment_start c.take_along-node.new.segments.items) (pixel_start c.loop-at.self-inside.pixels.items) c.loop-at.at c.take_along-node.result
+    c.loop-at.invariant.lists c.loop-at-test.true c.take_along-node.ensures.node c.take_along-node.ensures.takes
 
 pub loop-at-preserved : goal.loop-at-preserved
 loop-at-preserved c = record {
   lists =
-      pixel_more c.args.pixel c.args.self.now c.loop-at.self-inside.nodes.slots c.take_along-node.new.nodes.slots c.set_back_across.new.nodes.slots (segment_start c.loop-at.self-inside.segments.items) (segment_start c.take_along-node.new.segments.items) (pixel_start c.loop-at.self-inside.pixels.items) c.loop-at.at c.take_along-node.result
-      c.loop-at.invariant.lists c.loop-at-test.true c.take_along-node.ensures.node c.take_along-node.ensures.takes c.set_back_across.ensures.links;
+      pixel_more c.args.pixel c.args.self.now c.loop-at.self-inside.nodes.slots c.take_along-node.new.nodes.slots (segment_start c.loop-at.self-inside.segments.items) (segment_start c.take_along-node.new.segments.items) (pixel_start c.loop-at.self-inside.pixels.items) c.loop-at.at c.take_along-node.result
+      c.loop-at.invariant.lists c.loop-at-test.true c.take_along-node.ensures.node c.take_along-node.ensures.takes;
   by_name = c.take_along-node.ensures.by_name;
   by_pixel = c.loop-at.invariant.by_pixel;
   head = c.loop-at.invariant.head;
   some = c.loop-at.invariant.some;
-  room = omega (arith, c.loop-at.invariant.room, c.take_along-node.ensures.room, c.take_along-node.ensures.len, c.take_along-node.ensures.capacity, c.set_back_across.ensures.room);
+  room = omega (arith, c.loop-at.invariant.room, c.take_along-node.ensures.room, c.take_along-node.ensures.len, c.take_along-node.ensures.capacity);
 }
 
 -- the lists without those passes

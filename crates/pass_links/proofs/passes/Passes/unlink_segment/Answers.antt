@@ -9,7 +9,7 @@ use Rattle.pass_links.specs.Heads.{segment_start, pixel_start}
 use Rattle.pass_links.specs.Passes.{PassLists, pixels_of, names_at}
 use Rattle.pass_links.proofs.ChainLaws.{way_end}
 use Rattle.pass_links.proofs.SeenLaws.{seen, seen_pixels, seen_names, seen_linked}
-use Rattle.pass_links.proofs.UnlinkLaws.{IsWithoutSegment, segment_begun, segment_first_stored, segment_next_stored, segment_more, segment_fewer, segment_done, segment_none}
+use Rattle.pass_links.proofs.UnlinkLaws.{IsWithoutSegment, segment_begun, segment_first_stored, segment_more, segment_fewer, segment_done, segment_none}
 use Rattle.pass_links.proofs.passes.Passes.unlink_segment.Goals as goal
 use Rattle.pass_links.proofs.passes.Passes.unlink_segment.Goals.{After-find-head, After-set_first}
 
@@ -52,26 +52,21 @@ pub take_across-node-requires-clause-stored : goal.take_across-node-requires-cla
 take_across-node-requires-clause-stored c =
     segment_first_stored c.args.name c.args.self.now c.loop-at.self-inside.nodes.slots (segment_start c.loop-at.self-inside.segments.items) (pixel_start c.loop-at.self-inside.pixels.items) c.loop-at.at c.loop-at.invariant.lists c.loop-at-test.true
 
-pub set_back_along-requires : goal.set_back_along-requires
-set_back_along-requires c =
-    segment_next_stored c.args.name c.args.self.now c.loop-at.self-inside.nodes.slots c.take_across-node.new.nodes.slots (segment_start c.loop-at.self-inside.segments.items) (pixel_start c.loop-at.self-inside.pixels.items) (pixel_start c.take_across-node.new.pixels.items) c.loop-at.at c.take_across-node.result
-    c.loop-at.invariant.lists c.loop-at-test.true c.take_across-node.ensures.node c.take_across-node.ensures.takes
-
 pub loop-at-smaller : goal.loop-at-smaller
 loop-at-smaller c =
-    segment_fewer c.args.name c.args.self.now c.loop-at.self-inside.nodes.slots c.take_across-node.new.nodes.slots c.set_back_along.new.nodes.slots (segment_start c.loop-at.self-inside.segments.items) (pixel_start c.loop-at.self-inside.pixels.items) (pixel_start c.take_across-node.new.pixels.items) c.loop-at.at c.take_across-node.result
-    c.loop-at.invariant.lists c.loop-at-test.true c.take_across-node.ensures.node c.take_across-node.ensures.takes c.set_back_along.ensures.links
+    segment_fewer c.args.name c.args.self.now c.loop-at.self-inside.nodes.slots c.take_across-node.new.nodes.slots (segment_start c.loop-at.self-inside.segments.items) (pixel_start c.loop-at.self-inside.pixels.items) (pixel_start c.take_across-node.new.pixels.items) c.loop-at.at c.take_across-node.result
+    c.loop-at.invariant.lists c.loop-at-test.true c.take_across-node.ensures.node c.take_across-node.ensures.takes
 
 pub loop-at-preserved : goal.loop-at-preserved
 loop-at-preserved c = record {
   lists =
-      segment_more c.args.name c.args.self.now c.loop-at.self-inside.nodes.slots c.take_across-node.new.nodes.slots c.set_back_along.new.nodes.slots (segment_start c.loop-at.self-inside.segments.items) (pixel_start c.loop-at.self-inside.pixels.items) (pixel_start c.take_across-node.new.pixels.items) c.loop-at.at c.take_across-node.result
-      c.loop-at.invariant.lists c.loop-at-test.true c.take_across-node.ensures.node c.take_across-node.ensures.takes c.set_back_along.ensures.links;
+      segment_more c.args.name c.args.self.now c.loop-at.self-inside.nodes.slots c.take_across-node.new.nodes.slots (segment_start c.loop-at.self-inside.segments.items) (pixel_start c.loop-at.self-inside.pixels.items) (pixel_start c.take_across-node.new.pixels.items) c.loop-at.at c.take_across-node.result
+      c.loop-at.invariant.lists c.loop-at-test.true c.take_across-node.ensures.node c.take_across-node.ensures.takes;
   by_pixel = c.take_across-node.ensures.by_pixel;
   by_name = c.loop-at.invariant.by_name;
   head = c.loop-at.invariant.head;
   some = c.loop-at.invariant.some;
-  room = omega (arith, c.loop-at.invariant.room, c.take_across-node.ensures.room, c.take_across-node.ensures.len, c.take_across-node.ensures.capacity, c.set_back_along.ensures.room);
+  room = omega (arith, c.loop-at.invariant.room, c.take_across-node.ensures.room, c.take_across-node.ensures.len, c.take_across-node.ensures.capacity);
 }
 
 -- the lists without those passes
