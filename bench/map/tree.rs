@@ -1,6 +1,7 @@
 //! The tree of `radix_map` in plain Rust, with the same layout and the same walks, and std's
-//! `BTreeMap` beside it: it takes the words of `bench_map`, and for `get` the word `btree` more. It
-//! prints the same counts. It notes no edits, since want of memory ends it.
+//! `BTreeMap` beside it: it takes the words of `bench_map`, for `get` the word `btree` more, and for
+//! `find_all` the word `path` more, with which it keeps the path to the last key and not its leaf
+//! beside. It prints the same counts. It notes no edits, since want of memory ends it.
 
 use std::collections::BTreeMap;
 use std::sync::Arc;
@@ -258,8 +259,9 @@ type Walk6<'a, V> = NodeWalk<'a, Node5<V>, Walk5<'a, V>>;
 type RootWalk<'a, V> = NodeWalk<'a, Node6<V>, Walk6<'a, V>>;
 
 trait Finger<'a, V, L: Level<V>> {
+    type Found;
     fn begin(node: &'a L) -> Self;
-    fn find(&mut self, key: u32, shift: u32) -> Option<&'a V>;
+    fn find(&mut self, key: u32, shift: u32) -> Option<Self::Found>;
 }
 
 struct LeafFinger<'a, V> {
@@ -273,6 +275,8 @@ struct NodeFinger<'a, L, F> {
 }
 
 impl<'a, V> Finger<'a, V, Leaf<V>> for LeafFinger<'a, V> {
+    type Found = &'a V;
+
     fn begin(leaf: &'a Leaf<V>) -> Self {
         LeafFinger { leaf }
     }
@@ -283,13 +287,28 @@ impl<'a, V> Finger<'a, V, Leaf<V>> for LeafFinger<'a, V> {
     }
 }
 
+impl<'a, V> Finger<'a, V, Node1<V>> for &'a Node1<V> {
+    type Found = &'a Leaf<V>;
+
+    fn begin(node: &'a Node1<V>) -> Self {
+        node
+    }
+
+    #[inline(always)]
+    fn find(&mut self, key: u32, shift: u32) -> Option<&'a Leaf<V>> {
+        self.places.get(place(key, shift))
+    }
+}
+
 impl<'a, V, L: Level<V>, F: Finger<'a, V, L>> Finger<'a, V, Node<L>> for NodeFinger<'a, L, F> {
+    type Found = F::Found;
+
     fn begin(node: &'a Node<L>) -> Self {
         NodeFinger { node, at: 0, inner: None }
     }
 
     #[inline(always)]
-    fn find(&mut self, key: u32, shift: u32) -> Option<&'a V> {
+    fn find(&mut self, key: u32, shift: u32) -> Option<F::Found> {
         let at = place(key, shift);
         if at == self.at {
             if let Some(inner) = &mut self.inner {
@@ -304,13 +323,50 @@ impl<'a, V, L: Level<V>, F: Finger<'a, V, L>> Finger<'a, V, Node<L>> for NodeFin
     }
 }
 
-type Finger1<'a, V> = NodeFinger<'a, Leaf<V>, LeafFinger<'a, V>>;
-type Finger2<'a, V> = NodeFinger<'a, Node1<V>, Finger1<'a, V>>;
-type Finger3<'a, V> = NodeFinger<'a, Node2<V>, Finger2<'a, V>>;
-type Finger4<'a, V> = NodeFinger<'a, Node3<V>, Finger3<'a, V>>;
-type Finger5<'a, V> = NodeFinger<'a, Node4<V>, Finger4<'a, V>>;
-type Finger6<'a, V> = NodeFinger<'a, Node5<V>, Finger5<'a, V>>;
-type RootFinger<'a, V> = NodeFinger<'a, Node6<V>, Finger6<'a, V>>;
+// A path from the root, where F is its end, from the node above the leaves on.
+type Path<'a, V, F> = NodeFinger<'a, Node6<V>, Path6<'a, V, F>>;
+type Path6<'a, V, F> = NodeFinger<'a, Node5<V>, Path5<'a, V, F>>;
+type Path5<'a, V, F> = NodeFinger<'a, Node4<V>, Path4<'a, V, F>>;
+type Path4<'a, V, F> = NodeFinger<'a, Node3<V>, Path3<'a, V, F>>;
+type Path3<'a, V, F> = NodeFinger<'a, Node2<V>, NodeFinger<'a, Node1<V>, F>>;
+
+// Look-ups that keep the path to the last key, down to its leaf.
+type PathFinger<'a, V> = Path<'a, V, NodeFinger<'a, Leaf<V>, LeafFinger<'a, V>>>;
+
+// Look-ups that keep the path to the last key, and its leaf by itself.
+struct TreeFinger<'a, V> {
+    path: Path<'a, V, &'a Node1<V>>,
+    kept: Option<BlockLeaf<'a, V>>,
+}
+
+struct BlockLeaf<'a, V> {
+    block: u32,
+    leaf: Option<&'a Leaf<V>>,
+}
+
+impl<'a, V> TreeFinger<'a, V> {
+    fn of(root: &'a Root<V>) -> Self {
+        TreeFinger { path: Finger::begin(root), kept: None }
+    }
+
+    #[inline(always)]
+    fn find(&mut self, key: u32) -> Option<&'a V> {
+        self.leaf_of(key)?.get(key, 0)
+    }
+
+    #[inline(always)]
+    fn leaf_of(&mut self, key: u32) -> Option<&'a Leaf<V>> {
+        let block = key >> 4;
+        if let Some(kept) = &self.kept {
+            if kept.block == block {
+                return kept.leaf;
+            }
+        }
+        let leaf = self.path.find(key, 28);
+        self.kept = Some(BlockLeaf { block, leaf });
+        leaf
+    }
+}
 
 struct Map<V> {
     len: usize,
@@ -460,10 +516,19 @@ fn main() {
                 let keys = line_keys(line);
                 let map = Map::open().with_all(&line_edits(line));
                 let mut count = 0;
-                for _ in 0..rounds {
-                    let mut finger = RootFinger::begin(&map.root);
-                    for key in &keys {
-                        count += u64::from(finger.find(*key, 28).is_some());
+                if words.get(3).is_some_and(|form| form == "path") {
+                    for _ in 0..rounds {
+                        let mut finger = PathFinger::begin(&map.root);
+                        for key in &keys {
+                            count += u64::from(finger.find(*key, 28).is_some());
+                        }
+                    }
+                } else {
+                    for _ in 0..rounds {
+                        let mut finger = TreeFinger::of(&map.root);
+                        for key in &keys {
+                            count += u64::from(finger.find(*key).is_some());
+                        }
                     }
                 }
                 count
