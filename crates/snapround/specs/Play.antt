@@ -1,7 +1,7 @@
 -- The call `play`: what each status says of what was read and written.
 -- What speaks of bytes holds where the source tells its bytes, and the sink those that were written to it.
-use Rattle.std.specs.Prelude.{◌≡◌, ◌≢◌, ℕ, ◌≤◌, ◌⊎◌, Bool, true, false, List, [], ◌∷◌, Option, IfSome, codes, bytes_eq}
-use Rattle.std.specs.Io.KnownBytes.{Appends, IsAtEnd}
+use Rattle.std.specs.Prelude.{◌≡◌, ◌≢◌, ℕ, ◌+◌, ◌≤◌, ◌⊎◌, Bool, true, false, List, [], ◌∷◌, length, Option, IfSome, codes, bytes_eq}
+use Rattle.std.specs.Io.KnownBytes.{Appends, Consumes, IsAtEnd}
 use Rattle.io_ports.specs.Causes.{Rose}
 use Rattle.io_ports.specs.Transfers.{TakesExactly, WritesPrefix}
 use Rattle.snapround.specs.declared.play.Status.{Status}
@@ -23,6 +23,10 @@ abbrev pub is_play : List (List ℕ) → Bool
 is_play (word ∷ []) = bytes_eq word (codes "play")
 is_play _ = false
 
+-- the greatest input, in bytes
+abbrev pub most_bytes : ℕ
+most_bytes = 16777216
+
 -- what a source and a sink tell at one moment: the bytes that are left and those that were written,
 -- both counts of faults, and whether the sink is shut
 pub record Outside : Type 0 where
@@ -32,13 +36,28 @@ pub record Outside : Type 0 where
   pub write_faults : ℕ
   pub shut : Bool
 
+-- what is told of a source, its bytes left and its faults, and of a sink, its bytes, its faults and whether it is shut
+abbrev pub outside : Option (List ℕ) → ℕ → Option (List ℕ) → ℕ → Bool → Outside
+outside left read_faults written write_faults shut =
+    record {
+      left = left;
+      read_faults = read_faults;
+      written = written;
+      write_faults = write_faults;
+      shut = shut;
+    }
+
 -- `play` ended with this status
 pub record Played (status : ℕ) (old new : Outside) : Type 0 where
   -- no other status comes
   pub known : (status ≤ 6) × (status ≢ 2)
-  -- 0 and 1: nothing is left, exactly the replies to all lines were written, and the sink is shut
+  -- 0 and 1: exactly what was left was taken, and it was no longer than the greatest input
   pub read : status ≤ 1 → IsAtEnd new.left
-  pub replied : IfSome old.left (λ bytes. status ≤ 1 → Appends old.written new.written (output bytes))
+  pub taken : IfSome old.left (λ bytes. status ≤ 1 → Consumes old.left new.left bytes)
+  pub within : IfSome old.left (λ bytes. status ≤ 1 → length bytes ≤ most_bytes)
+  -- 0 and 1: exactly the replies to all lines were written, and the sink is shut
+  pub replied : IfSome old.left (λ bytes. status ≤ 1
+    → Appends old.written new.written (output bytes))
   pub shut : status ≤ 1 → new.shut ≡ true
   -- 0 where no line is bad, and 1 where one is
   pub clean : IfSome old.left (λ bytes. status ≡ 0 → has_bad_line bytes ≡ false)
@@ -47,7 +66,9 @@ pub record Played (status : ℕ) (old new : Outside) : Type 0 where
   pub source_failed : status ≡ 3 → Rose old.read_faults new.read_faults
   pub sink_failed : status ≡ 4 → Rose old.write_faults new.write_faults
   -- 5 exactly where one byte more than the greatest input was taken; memory may be refused for it
-  pub too_long : status ≡ 5 → TakesExactly old.left new.left 16777217
-  pub too_long_only : IfSome old.left (λ _. TakesExactly old.left new.left 16777217 → (status ≡ 5) ⊎ (status ≡ 6))
+  pub too_long : status ≡ 5 → TakesExactly old.left new.left (most_bytes + 1)
+  pub too_long_only : IfSome old.left (λ _. TakesExactly old.left new.left (most_bytes + 1)
+    → (status ≡ 5) ⊎ (status ≡ 6))
   -- 4 and 6: a prefix of the replies was written
-  pub part : IfSome old.left (λ bytes. (status ≡ 4) ⊎ (status ≡ 6) → WritesPrefix old.written new.written (output bytes))
+  pub part : IfSome old.left (λ bytes. (status ≡ 4) ⊎ (status ≡ 6)
+    → WritesPrefix old.written new.written (output bytes))

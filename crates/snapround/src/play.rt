@@ -6,7 +6,7 @@ ghost use Rattle.std.specs.Io.KnownBytes.{Appends};
 ghost use Rattle.io_ports.specs.Causes.{Rose};
 ghost use Rattle.io_ports.specs.Transfers.{WritesPrefix};
 ghost use Rattle.snapround.specs.Machine.{output, has_bad_line};
-ghost use Rattle.snapround.specs.Play.{code_of, is_play, Played};
+ghost use Rattle.snapround.specs.Play.{code_of, is_play, outside, Played};
 
 use crate::machine::Machine;
 use crate::script::next_line;
@@ -56,20 +56,10 @@ impl Status {
 pub fn top<S: Source, K: Sink>(alloc: Global, words: &[String], source: &mut S, sink: &mut K) -> u8
     ensures words { (result ≡ 2) ↔ (is_play (map string_bytes words.now) ≡ false) }
     ensures played { is_play (map string_bytes words.now) ≡ true → Played result
-        (record {
-          left = S.left source.old;
-          read_faults = S.faults source.old;
-          written = K.written sink.old;
-          write_faults = K.faults sink.old;
-          shut = K.shut sink.old;
-        })
-        (record {
-          left = S.left source.new;
-          read_faults = S.faults source.new;
-          written = K.written sink.new;
-          write_faults = K.faults sink.new;
-          shut = K.shut sink.new;
-        }) }
+        (outside (S.left source.old) (S.faults source.old)
+            (K.written sink.old) (K.faults sink.old) (K.shut sink.old))
+        (outside (S.left source.new) (S.faults source.new)
+            (K.written sink.new) (K.faults sink.new) (K.shut sink.new)) }
     ensures source_untouched { result ≡ 2 → source.new ≡ source.old }
     ensures sink_untouched { (result ≡ 2) ⊎ ((result ≡ 3) ⊎ (result ≡ 5)) → sink.new ≡ sink.old }
 {
@@ -94,20 +84,10 @@ fn is_play(words: &[String]) -> bool
 /// Each reply is handed to the sink in one piece.
 pub fn play<S: Source, K: Sink>(alloc: Global, source: &mut S, sink: &mut K) -> u8
     ensures played { Played result
-        (record {
-          left = S.left source.old;
-          read_faults = S.faults source.old;
-          written = K.written sink.old;
-          write_faults = K.faults sink.old;
-          shut = K.shut sink.old;
-        })
-        (record {
-          left = S.left source.new;
-          read_faults = S.faults source.new;
-          written = K.written sink.new;
-          write_faults = K.faults sink.new;
-          shut = K.shut sink.new;
-        }) }
+        (outside (S.left source.old) (S.faults source.old)
+            (K.written sink.old) (K.faults sink.old) (K.shut sink.old))
+        (outside (S.left source.new) (S.faults source.new)
+            (K.written sink.new) (K.faults sink.new) (K.shut sink.new)) }
     ensures sink_untouched { (result ≡ 3) ⊎ (result ≡ 5) → sink.new ≡ sink.old }
 {
     run(alloc, source, sink).code()
@@ -115,20 +95,10 @@ pub fn play<S: Source, K: Sink>(alloc: Global, source: &mut S, sink: &mut K) -> 
 
 fn run<S: Source, K: Sink>(alloc: Global, source: &mut S, sink: &mut K) -> Status
     ensures played { Played (code_of result)
-        (record {
-          left = S.left source.old;
-          read_faults = S.faults source.old;
-          written = K.written sink.old;
-          write_faults = K.faults sink.old;
-          shut = K.shut sink.old;
-        })
-        (record {
-          left = S.left source.new;
-          read_faults = S.faults source.new;
-          written = K.written sink.new;
-          write_faults = K.faults sink.new;
-          shut = K.shut sink.new;
-        }) }
+        (outside (S.left source.old) (S.faults source.old)
+            (K.written sink.old) (K.faults sink.old) (K.shut sink.old))
+        (outside (S.left source.new) (S.faults source.new)
+            (K.written sink.new) (K.faults sink.new) (K.shut sink.new)) }
     ensures sink_untouched { (code_of result ≡ 3) ⊎ (code_of result ≡ 5) → sink.new ≡ sink.old }
 {
     let input = match read_all(alloc, source, MOST_BYTES) {
