@@ -3,7 +3,7 @@
 use Rattle.std.specs.Prelude.{◌≡◌, ◌≢◌, ℕ, ◌+◌, ◌≤◌, ◌⊎◌, Bool, true, false, List, [], ◌∷◌, length, Option, IfSome, codes, bytes_eq}
 use Rattle.std.specs.Io.KnownBytes.{Appends, Consumes, IsAtEnd}
 use Rattle.io_ports.specs.Causes.{Rose}
-use Rattle.io_ports.specs.Transfers.{TakesExactly, WritesPrefix}
+use Rattle.io_ports.specs.Transfers.{TakesAtMost, TakesExactly, WritesPrefix}
 use Rattle.snapround.specs.declared.play.Status.{Status}
 use Rattle.snapround.specs.declared.play.Status.TheVariants.{Done, SomeBad, BadWords, ReadFault, WriteFault, TooLong, Memory}
 use Rattle.snapround.specs.Machine.{output, has_bad_line}
@@ -51,6 +51,8 @@ outside left read_faults written write_faults shut =
 pub record Played (status : ℕ) (old new : Outside) : Type 0 where
   -- no other status comes
   pub known : (status ≤ 6) × (status ≢ 2)
+  -- in every case at most one byte more than the greatest input was taken
+  pub most : TakesAtMost old.left new.left (most_bytes + 1)
   -- 0 and 1: exactly what was left was taken, and it was no longer than the greatest input
   pub read : status ≤ 1 → IsAtEnd new.left
   pub taken : IfSome old.left (λ bytes. status ≤ 1 → Consumes old.left new.left bytes)

@@ -31,10 +31,7 @@ fn main(rt: HostRuntime) -> ExitCode {
 /// The words after the program's name. A word that isn't UTF-8 is one that the program doesn't take.
 fn words(rt: &(impl Env + AllocGlobal)) -> Result<Vec<String>, Status> {
     match env::args(rt) {
-        Ok(args) => match args.skip(1).collect(rt.alloc()) {
-            Ok(words) => Ok(words),
-            Err(_) => Err(Status::Memory),
-        },
+        Ok(args) => args.skip(1).collect(rt.alloc()).map_err(|_| Status::Memory),
         Err(error) if error.kind() == ErrorKind::OutOfMemory => Err(Status::Memory),
         Err(_) => Err(Status::BadWords),
     }

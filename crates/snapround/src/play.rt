@@ -126,14 +126,9 @@ fn respond<K: Sink>(alloc: Global, input: &[u8], sink: &mut K) -> Result<bool, S
         → Rose (K.faults sink.old) (K.faults sink.new) }
     ensures shut { OnOk result (K.shut sink.new ≡ true) }
 {
-    let some_bad = match answer_all(alloc, input, sink) {
-        Ok(some_bad) => some_bad,
-        Err(fault) => return Err(fault),
-    };
-    match sink.close() {
-        Ok(()) => Ok(some_bad),
-        Err(fault) => Err(fault),
-    }
+    let some_bad = answer_all(alloc, input, sink)?;
+    sink.close()?;
+    Ok(some_bad)
 }
 
 /// Writes the replies to all lines of the input. Whether some line is bad.
@@ -159,19 +154,9 @@ fn answer_all<K: Sink>(alloc: Global, input: &[u8], sink: &mut K) -> Result<bool
             Ok(is_bad) => is_bad,
             Err(_) => return Err(SinkFault::Memory),
         };
-        match write_whole(sink, &reply) {
-            Ok(()) => {}
-            Err(fault) => return Err(fault),
-        }
-        some_bad = either(some_bad, is_bad);
+        write_whole(sink, &reply)?;
+        some_bad |= is_bad;
         rest = after;
     }
     Ok(some_bad)
-}
-
-/// Whether one of the two holds.
-fn either(a: bool, b: bool) -> bool
-    ensures { result ≡ (a || b) }
-{
-    a || b
 }

@@ -129,15 +129,19 @@ fn status_of(rt: &HostRuntime, words: &[&str]) -> Result<u8, Fail> {
 }
 
 #[test]
-fn the_one_word_play_is_taken(rt: HostRuntime) -> Result<(), Fail> {
+fn words(rt: HostRuntime) -> Result<(), Fail> {
     assert_eq!(rt; status_of(&rt, &["play"])?, 1);
     assert_eq!(rt; status_of(&rt, &[])?, 2);
     assert_eq!(rt; status_of(&rt, &[""])?, 2);
     assert_eq!(rt; status_of(&rt, &["Play"])?, 2);
     assert_eq!(rt; status_of(&rt, &["play "])?, 2);
     assert_eq!(rt; status_of(&rt, &["play", "play"])?, 2);
+    assert_eq!(rt; status_of(&rt, &["play", "x"])?, 2);
+    assert_eq!(rt; status_of(&rt, &["play", "--"])?, 2);
     assert_eq!(rt; status_of(&rt, &["--", "play"])?, 2);
     assert_eq!(rt; status_of(&rt, &["-h"])?, 2);
+    assert_eq!(rt; status_of(&rt, &["make", "--start", "1"])?, 2);
+    assert_eq!(rt; status_of(&rt, &["crew", "--tries", "0"])?, 2);
     Ok(())
 }
 

@@ -1,4 +1,5 @@
 use Rattle.std.proofs.Common.{◌≡◌, ◌+◌, length, ◌∙◌, arith, rules}
+use Rattle.std.proofs.lemmas.Result.{err_from_is_err_and}
 use Rattle.snapround.specs.Machine.{reply, accepted}
 use Rattle.snapround.proofs.Runs.{goes_on, fails, stops, ends}
 use Rattle.snapround.proofs.play.answer_all.Goals as goal
@@ -6,22 +7,23 @@ use Rattle.snapround.proofs.play.answer_all.Goals as goal
 pub returns-in-Err-clause-part : goal.returns-in-Err-clause-part
 returns-in-Err-clause-part g c = stops _ _ _ _ _ _ _ c.loop-line.invariant.answered
 
-pub returns-in-Err-write_whole-clause-part : goal.returns-in-Err-write_whole-clause-part
-returns-in-Err-write_whole-clause-part g c =
+pub returns-in_err-write_whole-clause-part : goal.returns-in_err-write_whole-clause-part
+returns-in_err-write_whole-clause-part g c =
     let st = c.loop-line.machine in
     let text : c.deref.result.now ≡ reply st (c.loop-line.number + 1) (accepted st c.in-Some.line.now) =
     c.deref.ensures.value ∙ rw c.clear.ensures.items at c.in-Ok.ensures.reply in
-    fails _ _ _ _ _ _ _ _ _ _ _ c.loop-line.invariant.answered c.in-Some.ensures.lines text c.in-Err-write_whole.ensures.part
+    let returned = err_from_is_err_and c.from_residual.result c.from_residual.ensures.1 in
+    rw returned.1 (fails _ _ _ _ _ _ _ _ _ _ _ c.loop-line.invariant.answered c.in-Some.ensures.lines text c.in_err-write_whole.ensures.part)
 
 pub loop-line-preserved : goal.loop-line-preserved
 loop-line-preserved g c =
     let st = c.loop-line.machine in
     let text : c.deref.result.now ≡ reply st (c.loop-line.number + 1) (accepted st c.in-Some.line.now) =
     c.deref.ensures.value ∙ rw c.clear.ensures.items at c.in-Ok.ensures.reply in
-    rw c.either-some_bad.ensures (record {
-      answered = goes_on _ _ _ _ _ _ _ _ _ _ _ _ _ c.loop-line.invariant.answered c.in-Some.ensures.lines c.in-Some.ensures.shorter c.in-Ok.ensures.bad c.in-Ok.ensures.state text c.in-Ok-write_whole.ensures.whole;
-      later = omega (arith, c.loop-line.invariant.later, c.in-Ok-write_whole.ensures.later);
-    })
+    record {
+      answered = goes_on _ _ _ _ _ _ _ _ _ _ _ _ _ c.loop-line.invariant.answered c.in-Some.ensures.lines c.in-Some.ensures.shorter c.in-Ok.ensures.bad c.in-Ok.ensures.state text c.in_ok-write_whole.ensures.whole;
+      later = omega (arith, c.loop-line.invariant.later, c.in_ok-write_whole.ensures.later);
+    }
 
 pub returns-clause-whole : goal.returns-clause-whole
 returns-clause-whole g c =
