@@ -1,12 +1,12 @@
 -- Pieces between separators, as lines and fields are: the first piece ends at the first separator.
 -- Both divisions have one step, so each fact is proved once, by induction on the bytes.
-use Rattle.std.proofs.Common.{◌≡◌, ℕ, ◌+◌, ◌-◌, ◌<◌, ◌≤◌, ◌==◌, nat_lt, Bool, true, false, cond, not, subst, Bor, List, [], ◌∷◌, length, take, drop, Option, Some, None, option_copied, position, if◌then◌else◌, refl, ap, ◌∙◌, arith, one-add}
+use Rattle.std.proofs.Common.{◌≡◌, ℕ, ◌+◌, ◌-◌, ◌<◌, ◌≤◌, ◌==◌, nat_lt, Bool, true, false, cond, not, subst, Bor, List, [], ◌∷◌, length, take, drop, Option, Some, None, option_copied, position, codes, bytes_eq, if◌then◌else◌, refl, ap, ◌∙◌, arith, one-add}
 use Rattle.std.specs.List.{position_or_len}
 use Rattle.std.proofs.lemmas.Option.{cond_some}
 use Rattle.std.proofs.lemmas.Bool.Decides.{nat_tests}
 use Rattle.std.proofs.lemmas.List.{take_rest}
 use Rattle.std.proofs.Math.Seq.{drop-length}
-use Rattle.snapround.specs.Script.{put_front, lines_of, fields_of, further_fields, insert_from}
+use Rattle.snapround.specs.Script.{put_front, lines_of, fields_of, further_fields, insert_from, request_of}
 
 -- f divides bytes at each separator, and a byte alone is one piece
 pub record Divides (separator : ℕ) (f : List ℕ → List (List ℕ)) : Type 0 where
@@ -104,3 +104,15 @@ no_fifth_field x1 y1 x2 y2 (b ∷ bs) = five_fields x1 y1 x2 y2 (b == 32) b (fie
 pub too_many_fields : (x1 y1 x2 y2 ends rest1 rest2 rest3 rest4 : List ℕ) → fields_of ends ≡ x1 ∷ fields_of rest1 → fields_of rest1 ≡ y1 ∷ fields_of rest2 → fields_of rest2 ≡ x2 ∷ fields_of rest3 → fields_of rest3 ≡ y2 ∷ fields_of rest4 → insert_from (fields_of ends) ≡ None
 too_many_fields x1 y1 x2 y2 ends rest1 rest2 rest3 rest4 e1 e2 e3 e4 =
     rw (e1, e2, e3, e4) (no_fifth_field x1 y1 x2 y2 rest4)
+
+no_request_step : (word : List ℕ) (is_space : Bool) (b : ℕ) (fields rest : List (List ℕ)) → bytes_eq word (codes "insert") ≡ false
+    → request_of word (cond is_space ([] ∷ rest) (put_front b fields)) ≡ None
+no_request_step word true b fields rest e = simp e
+no_request_step word false b [] rest e = simp e
+no_request_step word false b (f ∷ fields) rest e = simp e
+
+-- where fields stand behind another word than `insert`, there is no request
+pub no_request : (word bs : List ℕ) → bytes_eq word (codes "insert") ≡ false → request_of word (fields_of bs) ≡ None
+unfolding fields_of
+no_request word [] e = simp e
+no_request word (b ∷ bs) e = no_request_step word (b == 32) b (fields_of bs) (fields_of bs) e

@@ -1,6 +1,6 @@
 -- What each command keeps true of the machine's state.
 -- Serials rise along the live list, so that a new segment's place by name is the end.
-use Rattle.std.proofs.Common.{◌≡◌, ℕ, ◌+◌, ◌<◌, nat_lt, Bool, true, false, cond, List, [], ◌∷◌, ◌++◌, length-append, filter, All, Some, None, is_some, unsigned_abs, ◌⊎◌, inl, inr, ⊎_elim, ◌==◌, refl, sym, ap, ◌∙◌, arith, Less, Greater}
+use Rattle.std.proofs.Common.{◌≡◌, ℕ, ◌+◌, ◌-◌, ◌<◌, nat_lt, Bool, true, false, cond, List, [], ◌∷◌, ◌++◌, length-append, filter, All, Some, None, is_some, unsigned_abs, ◌⊎◌, inl, inr, ⊎_elim, ◌==◌, refl, sym, ap, ◌∙◌, subst, arith, Less, Greater}
 use Rattle.std.specs.List.{AllByRecursion}
 use Rattle.std.specs.List.Sorted.{IsStrictlySortedBy}
 use Rattle.std.proofs.lemmas.Option.{MatchOption-at_some, IfSome_then}
@@ -94,9 +94,10 @@ next_of st s h e = MatchOption-at_some (Unit {0}) (IsNext st) s e h.prepared
 committed_at_end : (st : State) (s : Segment) → IsState st → st.prepared ≡ Some s → with_segment st.live s ≡ st.live ++ s ∷ []
 committed_at_end st s h e =
     let next = next_of st s h e in
-    let n = next.after.0 in
-    let named : s.name ≡ record { editor = 1; serial = n + 1 } = next.named ∙ ap (λ k. record { editor = 1; serial = k }) next.after.1 in
-    place_is_end n st.live s next.after.2 named
+    let n = st.serial - 1 in
+    let last : st.serial ≡ n + 1 = omega (arith, next.serial) in
+    let named : s.name ≡ record { editor = 1; serial = n + 1 } = next.named ∙ ap (λ k. record { editor = 1; serial = k }) last in
+    place_is_end n st.live s next.before named
 
 -- a commit draws the prepared segment at the end of the live list
 pub committed : (st : State) (s : Segment) → IsState st → st.prepared ≡ Some s → record st { live = st.live ++ s ∷ []; prepared = None; commits = st.commits + 1 } ≡ after_commit st st.prepared
@@ -107,15 +108,16 @@ committed st s h e =
 pub commit_kept : (st : State) (s : Segment) → IsState st → st.prepared ≡ Some s → IsState (record st { live = st.live ++ s ∷ []; prepared = None; commits = st.commits + 1 })
 commit_kept st s h e =
     let next = next_of st s h e in
-    let n = next.after.0 in
-    let named : s.name ≡ record { editor = 1; serial = n + 1 } = next.named ∙ ap (λ k. record { editor = 1; serial = k }) next.after.1 in
-    let below = All-weaker (IsDrawnBy n) (λ t. label_cmp t.name s.name ≡ Less) (λ t d. before n t s.name d named) st.live next.after.2 in
+    let n = st.serial - 1 in
+    let last : st.serial ≡ n + 1 = omega (arith, next.serial) in
+    let named : s.name ≡ record { editor = 1; serial = n + 1 } = next.named ∙ ap (λ k. record { editor = 1; serial = k }) last in
+    let below = All-weaker (IsDrawnBy n) (λ t. label_cmp t.name s.name ≡ Less) (λ t d. before n t s.name d named) st.live next.before in
     record {
       live = record { rising = rising_push st.live s h.live.rising below; within = All-push (IsSegment 1048576) st.live s h.live.within next.within };
       drawn = All-push (IsDrawnBy st.serial) st.live s h.drawn (record { editor = ap (λ (k : Label). k.editor) next.named; serial = omega (arith, ap (λ (k : Label). k.serial) next.named) });
       prepared = tt;
       counted = omega (arith, length-append st.live (s ∷ []), h.counted);
-      commits = omega (arith, next.after.1, next.after.3);
+      commits = omega (arith, next.commits);
       serial = h.serial;
       inserts = h.inserts;
     }
@@ -123,10 +125,17 @@ commit_kept st s h e =
 -- the state after an insertion that is prepared
 pub prepare_kept : (st : State) (s : Segment) → IsState st → st.inserts < 64 → IsSegment 1048576 s → s.name ≡ record { editor = 1; serial = st.serial + 1 } → IsState (record st { prepared = Some s; serial = st.serial + 1; inserts = st.inserts + 1 })
 prepare_kept st s h room within named =
+    let last : st.serial ≡ st.serial + 1 - 1 = omega arith in
     record {
       live = h.live;
       drawn = All-weaker (IsDrawnBy st.serial) (IsDrawnBy (st.serial + 1)) (λ t d. record { editor = d.editor; serial = omega (arith, d.serial) }) st.live h.drawn;
-      prepared = record { within = within; named = named; after = (st.serial, refl, h.drawn, h.commits) };
+      prepared = record {
+        within = within;
+        named = named;
+        serial = omega arith;
+        before = subst (λ n. All (IsDrawnBy n) st.live) last h.drawn;
+        commits = omega (arith, h.commits);
+      };
       counted = h.counted;
       commits = omega (arith, h.commits);
       serial = omega (arith, h.serial);
@@ -139,7 +148,7 @@ refuse_kept st h room =
     record {
       live = h.live;
       drawn = h.drawn;
-      prepared = IfSome_then st.prepared h.prepared (λ s n. record { within = n.within; named = n.named; after = n.after });
+      prepared = IfSome_then st.prepared h.prepared (λ s n. record { within = n.within; named = n.named; serial = n.serial; before = n.before; commits = n.commits });
       counted = h.counted;
       commits = h.commits;
       serial = omega (arith, h.serial);

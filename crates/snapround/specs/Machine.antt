@@ -1,5 +1,5 @@
 -- The machine of one editor: what each line of a script changes, and the bytes of its reply.
-use Rattle.std.specs.Prelude.{◌≡◌, ℕ, ◌+◌, ◌≤◌, Bool, false, ◌||◌, nat_lt, List, [], ◌∷◌, ◌++◌, length, All, if◌then◌else◌, Option, Some, None, IfSome, is_some, is_none, option_and_then, unsigned_abs}
+use Rattle.std.specs.Prelude.{◌≡◌, ℕ, ◌+◌, ◌-◌, ◌<◌, ◌≤◌, Bool, false, ◌||◌, nat_lt, List, [], ◌∷◌, ◌++◌, length, All, if◌then◌else◌, Option, Some, None, IfSome, is_some, is_none, option_and_then, unsigned_abs}
 use Rattle.std.specs.Ordering.{is_eq}
 use Rattle.grid_core.specs.declared.point.Point.{Point}
 use Rattle.grid_core.specs.Vector.{point_cmp}
@@ -34,7 +34,9 @@ pub record IsDrawnBy (n : ℕ) (s : Segment) : Type 0 where
 pub record IsNext (st : State) (s : Segment) : Type 0 where
   pub within : IsSegment 1048576 s
   pub named : s.name ≡ record { editor = 1; serial = st.serial }
-  pub after : (n : ℕ) × (st.serial ≡ n + 1) × All (IsDrawnBy n) st.live × (st.commits ≤ n)
+  pub serial : 0 < st.serial
+  pub before : All (IsDrawnBy (st.serial - 1)) st.live
+  pub commits : st.commits < st.serial
 
 -- what holds in every state: serials rise along the live list, each commit drew one segment, and there are
 -- no more commits than serials and no more serials than insert lines
@@ -65,7 +67,12 @@ refusal st a b =
 
 -- the state after an insertion: prepared under the next name, or refused
 abbrev pub after_insert : State → Point → Point → Option Refusal → State
-after_insert st a b None = record st { prepared = Some (drawn st a b); serial = st.serial + 1; inserts = st.inserts + 1 }
+after_insert st a b None =
+    record st {
+      prepared = Some (drawn st a b);
+      serial = st.serial + 1;
+      inserts = st.inserts + 1;
+    }
 after_insert st a b (Some why) = record st { inserts = st.inserts + 1 }
 
 -- the reply to an insertion
@@ -76,7 +83,12 @@ insert_reply st (Some why) = refused_text why
 -- the state after a commit: the prepared segment is drawn
 abbrev pub after_commit : State → Option Segment → State
 after_commit st None = st
-after_commit st (Some s) = record st { live = with_segment st.live s; prepared = None; commits = st.commits + 1 }
+after_commit st (Some s) =
+    record st {
+      live = with_segment st.live s;
+      prepared = None;
+      commits = st.commits + 1;
+    }
 
 -- the reply to a commit
 abbrev pub commit_reply : State → Option Segment → List ℕ
@@ -122,12 +134,14 @@ reply st n (Some command) = command_reply st command
 -- the replies to the lines from number n on
 unfoldable pub replies : State → ℕ → List (List ℕ) → List ℕ
 replies st n [] = []
-replies st n (line ∷ lines) = reply st n (accepted st line) ++ replies (after st (accepted st line)) (n + 1) lines
+replies st n (line ∷ lines) =
+    reply st n (accepted st line) ++ replies (after st (accepted st line)) (n + 1) lines
 
 -- whether one of the lines is bad
 unfoldable pub some_bad : State → List (List ℕ) → Bool
 some_bad st [] = false
-some_bad st (line ∷ lines) = is_none (accepted st line) || some_bad (after st (accepted st line)) lines
+some_bad st (line ∷ lines) =
+    is_none (accepted st line) || some_bad (after st (accepted st line)) lines
 
 -- the output that an input owes
 abbrev pub output : List ℕ → List ℕ

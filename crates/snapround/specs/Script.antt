@@ -1,6 +1,6 @@
 -- Scripts: an input is a list of lines, and a line is one command or bad.
 -- Lines are read byte for byte: one space between two fields, and nothing else.
-use Rattle.std.specs.Prelude.{ℕ, ℤ, pos, ◌-ℤ◌, ◌+◌, ◌-◌, ◌*◌, ◌&&◌, nat_le, ◌==◌, List, [], ◌∷◌, length, take, drop, fold, codes, bytes_eq, if◌then◌else◌, Option, Some, None, option_map, option_and_then}
+use Rattle.std.specs.Prelude.{ℕ, ℤ, pos, ◌-ℤ◌, ◌+◌, ◌-◌, ◌*◌, ◌&&◌, nat_le, ◌==◌, List, [], ◌∷◌, length, fold, codes, bytes_eq, if◌then◌else◌, Option, Some, None, option_map, option_and_then}
 use Rattle.std.specs.List.{list_all}
 use Rattle.std.specs.Char.{is_ascii_digit}
 use Rattle.grid_core.specs.declared.point.Point.{Point}
@@ -50,10 +50,20 @@ insert_from (x1 ∷ y1 ∷ x2 ∷ y2 ∷ []) =
     option_and_then (λ a. option_map (λ b. Insert a b) (point_from x2 y2)) (point_from x1 y1)
 insert_from _ = None
 
--- the command of a line: `1 commit`, `1 show`, or `1 insert` and four whole numbers
-abbrev pub command_of : List ℕ → Option Command
-command_of line =
-    if bytes_eq line (codes "1 commit") then Some Commit
-    else if bytes_eq line (codes "1 show") then Some Show
-    else if bytes_eq (take 9 line) (codes "1 insert ") then insert_from (fields_of (drop 9 line))
+-- the command of a word and the fields behind it
+abbrev pub request_of : List ℕ → List (List ℕ) → Option Command
+request_of word [] =
+    if bytes_eq word (codes "commit") then Some Commit
+    else if bytes_eq word (codes "show") then Some Show
     else None
+request_of word ends = if bytes_eq word (codes "insert") then insert_from ends else None
+
+-- the command of fields, of which the first is the editor 1
+abbrev pub command_from : List (List ℕ) → Option Command
+command_from (editor ∷ word ∷ further) =
+    if bytes_eq editor (codes "1") then request_of word further else None
+command_from _ = None
+
+-- the command of a line: its fields are `1` `commit`, or `1` `show`, or `1` `insert` and four whole numbers
+abbrev pub command_of : List ℕ → Option Command
+command_of line = command_from (fields_of line)

@@ -5,7 +5,7 @@
 ghost use Rattle.std.specs.Prelude.{◌≡◌, ◌↔◌, pos, ◌-ℤ◌, ◌<◌, ◌^◌, ◌==◌, ◌∷◌, length, position};
 ghost use Rattle.std.specs.Prelude.{option_copied, IsNone, IfSome};
 ghost use Rattle.snapround.specs.Script.{lines_of, fields_of, further_fields, digits_of, whole_of};
-ghost use Rattle.snapround.specs.Script.{point_from, insert_from, command_of};
+ghost use Rattle.snapround.specs.Script.{point_from, insert_from, request_of, command_of};
 
 use grid_core::Point;
 
@@ -39,13 +39,26 @@ pub fn next_line(bytes: &[u8]) -> Option<(&[u8], &[u8])>
 pub fn read_line(line: &[u8]) -> Option<Command>
     ensures { result ≡ command_of line.now }
 {
-    if line == b"1 commit".as_slice() {
-        return Some(Command::Commit);
+    let (editor, after_editor) = first_field(line);
+    let (word, further) = first_field(after_editor?);
+    if editor == b"1".as_slice() {
+        read_request(word, further)
+    } else {
+        None
     }
-    if line == b"1 show".as_slice() {
-        return Some(Command::Show);
+}
+
+/// The command of a word and what follows the space after it, where there is one.
+fn read_request(word: &[u8], further: Option<&[u8]>) -> Option<Command>
+    ensures { result ≡ request_of word.now (further_fields (option_copied further.entry)) }
+{
+    match further {
+        None if word == b"commit".as_slice() => Some(Command::Commit),
+        None if word == b"show".as_slice() => Some(Command::Show),
+        None => None,
+        Some(ends) if word == b"insert".as_slice() => read_insert(ends),
+        Some(_) => None,
     }
-    read_insert(line.strip_prefix(b"1 insert ")?)
 }
 
 /// The insertion between two points, given by the four fields that stand between spaces.
