@@ -59,7 +59,7 @@ pub record Played (status : ℕ) (old new : Outside) : Type 0 where
   pub within : IfSome old.left (λ bytes. status ≤ 1 → length bytes ≤ most_bytes)
   -- 0 and 1: exactly the replies to all lines were written, and the sink is shut
   pub replied : IfSome old.left (λ bytes. status ≤ 1
-    → Appends old.written new.written (output bytes))
+      → Appends old.written new.written (output bytes))
   pub shut : status ≤ 1 → new.shut ≡ true
   -- 0 where no line is bad, and 1 where one is
   pub clean : IfSome old.left (λ bytes. status ≡ 0 → has_bad_line bytes ≡ false)
@@ -70,7 +70,7 @@ pub record Played (status : ℕ) (old new : Outside) : Type 0 where
   -- 5 exactly where one byte more than the greatest input was taken; memory may be refused for it
   pub too_long : status ≡ 5 → TakesExactly old.left new.left (most_bytes + 1)
   pub too_long_only : IfSome old.left (λ _. TakesExactly old.left new.left (most_bytes + 1)
-    → (status ≡ 5) ⊎ (status ≡ 6))
+      → (status ≡ 5) ⊎ (status ≡ 6))
   -- 4 and 6: a prefix of the replies was written
   pub part : IfSome old.left (λ bytes. (status ≡ 4) ⊎ (status ≡ 6)
-    → WritesPrefix old.written new.written (output bytes))
+      → WritesPrefix old.written new.written (output bytes))

@@ -57,9 +57,9 @@ pub fn top<S: Source, K: Sink>(alloc: Global, words: &[String], source: &mut S, 
     ensures words { (result ≡ 2) ↔ (is_play (map string_bytes words.now) ≡ false) }
     ensures played { is_play (map string_bytes words.now) ≡ true → Played result
         (outside (S.left source.old) (S.faults source.old)
-            (K.written sink.old) (K.faults sink.old) (K.shut sink.old))
+        (K.written sink.old) (K.faults sink.old) (K.shut sink.old))
         (outside (S.left source.new) (S.faults source.new)
-            (K.written sink.new) (K.faults sink.new) (K.shut sink.new)) }
+        (K.written sink.new) (K.faults sink.new) (K.shut sink.new)) }
     ensures source_untouched { result ≡ 2 → source.new ≡ source.old }
     ensures sink_untouched { (result ≡ 2) ⊎ ((result ≡ 3) ⊎ (result ≡ 5)) → sink.new ≡ sink.old }
 {
@@ -85,9 +85,9 @@ fn is_play(words: &[String]) -> bool
 pub fn play<S: Source, K: Sink>(alloc: Global, source: &mut S, sink: &mut K) -> u8
     ensures played { Played result
         (outside (S.left source.old) (S.faults source.old)
-            (K.written sink.old) (K.faults sink.old) (K.shut sink.old))
+        (K.written sink.old) (K.faults sink.old) (K.shut sink.old))
         (outside (S.left source.new) (S.faults source.new)
-            (K.written sink.new) (K.faults sink.new) (K.shut sink.new)) }
+        (K.written sink.new) (K.faults sink.new) (K.shut sink.new)) }
     ensures sink_untouched { (result ≡ 3) ⊎ (result ≡ 5) → sink.new ≡ sink.old }
 {
     run(alloc, source, sink).code()
@@ -96,9 +96,9 @@ pub fn play<S: Source, K: Sink>(alloc: Global, source: &mut S, sink: &mut K) -> 
 fn run<S: Source, K: Sink>(alloc: Global, source: &mut S, sink: &mut K) -> Status
     ensures played { Played (code_of result)
         (outside (S.left source.old) (S.faults source.old)
-            (K.written sink.old) (K.faults sink.old) (K.shut sink.old))
+        (K.written sink.old) (K.faults sink.old) (K.shut sink.old))
         (outside (S.left source.new) (S.faults source.new)
-            (K.written sink.new) (K.faults sink.new) (K.shut sink.new)) }
+        (K.written sink.new) (K.faults sink.new) (K.shut sink.new)) }
     ensures sink_untouched { (code_of result ≡ 3) ⊎ (code_of result ≡ 5) → sink.new ≡ sink.old }
 {
     let input = match read_all(alloc, source, MOST_BYTES) {
