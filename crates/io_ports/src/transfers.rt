@@ -11,8 +11,8 @@ use std::alloc::Global;
 /// How many bytes are asked for in one read.
 const PIECE: usize = 8192;
 
-/// All bytes that are left in the source, where they are at most `limit`. Where it answers a fault,
-/// the bytes that it took from the front are gone.
+/// All bytes that are left in the source, where they are at most `limit`, which is at most
+/// 16,777,216 (bytes). Where it answers a fault, the bytes that it took from the front are gone.
 pub fn read_all<S: Source>(
     alloc: Global,
     source: &mut S,
@@ -67,10 +67,7 @@ pub fn write_whole<K: Sink>(sink: &mut K, bytes: &[u8]) -> Result<(), SinkFault>
 {
     let mut done = 0;
     while done < bytes.len() {
-        match sink.write(&bytes[done..]) {
-            Ok(n) => done += n,
-            Err(fault) => return Err(fault),
-        }
+        done += sink.write(&bytes[done..])?;
     }
     Ok(())
 }
