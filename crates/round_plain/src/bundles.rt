@@ -40,10 +40,8 @@ fn add_route(
     let name = route.ur.name();
     let points = route.points.as_slice();
     for i in 1..points.len() {
-        match Edge::of(points[i - 1], points[i]) {
-            Some(edge) => add_pass(alloc, gathered, edge, name)?,
-            None => unreachable!(),
-        }
+        let edge = Edge::of(points[i - 1], points[i]).unwrap();
+        add_pass(alloc, gathered, edge, name)?;
     }
     Ok(())
 }
@@ -58,10 +56,7 @@ fn add_pass(
     ensures { OnOk result (gathered.new.entries ≡ with_pass gathered.old.entries (edge, name)) }
 {
     match gathered.get_mut(&edge) {
-        Some(names) => {
-            names.push(name)?;
-            Ok(())
-        }
+        Some(names) => names.push(name),
         None => {
             let mut names = Names::open(alloc);
             names.push(name)?;

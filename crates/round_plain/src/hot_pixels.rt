@@ -62,9 +62,8 @@ fn push_crossings(found: &mut Vec<Point>, s: &Ur, others: &[Ur]) -> Result<(), M
     ensures within { OnOk result (All (IsWithin (2 ^ 30)) found.new.items) }
 {
     for t in others {
-        match crossing_pixel(s, t) {
-            Some(h) => found.push(h)?,
-            None => {}
+        if let Some(h) = crossing_pixel(s, t) {
+            found.push(h)?;
         }
     }
     Ok(())
@@ -74,12 +73,10 @@ fn push_crossings(found: &mut Vec<Point>, s: &Ur, others: &[Ur]) -> Result<(), M
 #[inline(always)]
 fn crossing_pixel(s: &Ur, t: &Ur) -> Option<Point>
     ensures value { result ≡ crossing_pixel s.now t.now }
-    ensures within { IsSegment (2 ^ 30) s.now → IsSegment (2 ^ 30) t.now → IfSome result (IsWithin (2 ^ 30)) }
+    ensures within { IsSegment (2 ^ 30) s.now → IsSegment (2 ^ 30) t.now
+        → IfSome result (IsWithin (2 ^ 30)) }
 {
-    match crossing(s, t) {
-        Some(c) => Some(pixel(&c)),
-        None => None,
-    }
+    crossing(s, t).map(|c| pixel(&c))
 }
 
 /// The pixels of both lists in order, each once and with its two counts.

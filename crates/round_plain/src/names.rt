@@ -1,3 +1,5 @@
+//! A list of names that mostly needs no memory of its own.
+
 use grid_core::{Memory, Name};
 use smallvec::SmallVec;
 use std::alloc::Global;

@@ -1,3 +1,5 @@
+//! A snap rounding as values: the routes, the vertices, and the edges with their bundles.
+
 use crate::{Names, Points};
 use grid_core::{Edge, Ur, Vertex};
 use std::marker::Model;

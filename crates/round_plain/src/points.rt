@@ -1,3 +1,5 @@
+//! A list of points, as a route is.
+
 use grid_core::Point;
 use std::marker::Model;
 

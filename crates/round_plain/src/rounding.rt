@@ -1,3 +1,5 @@
+//! The snap rounding, made part by part: hot pixels, routes, edges.
+
 ghost use Rattle.std.specs.Prelude.{◌≡◌, ◌≤◌, length, IfOk};
 ghost use Rattle.std.specs.List.Sorted.{IsStrictlySortedBy};
 ghost use Rattle.grid_core.specs.Name.{label_cmp};

@@ -7,7 +7,7 @@ use std::alloc::{AllocError, Global};
 use std::process::Abort;
 use std::test::Fail;
 
-/// For a case with fewer than three segments.
+/// For a case with fewer than four segments.
 const UNUSED: [i64; 4] = [0, 0, 1, 0];
 
 /// Segment `1.serial` between two points, given as four coordinates.
@@ -21,19 +21,21 @@ fn segment(rt: &impl Abort, serial: u16, ends: [i64; 4]) -> Ur
     Ur::new(&Profile::edition_one(), name, p, q).expect(rt, "two ends within the bound")
 }
 
-/// Segments `1.1`, `1.2` and `1.3`.
-fn three(rt: &impl Abort, ends: [[i64; 4]; 3]) -> [Ur; 3]
+/// Segments `1.1` to `1.4`.
+fn four(rt: &impl Abort, ends: [[i64; 4]; 4]) -> [Ur; 4]
     ensures { names result
         ≡ record { editor = 1; serial = 1 }
         ∷ record { editor = 1; serial = 2 }
         ∷ record { editor = 1; serial = 3 }
+        ∷ record { editor = 1; serial = 4 }
         ∷ [] }
 {
-    let [first, second, third] = ends;
+    let [first, second, third, fourth] = ends;
     let first = segment(rt, 1, first);
     let second = segment(rt, 2, second);
     let third = segment(rt, 3, third);
-    [first, second, third]
+    let fourth = segment(rt, 4, fourth);
+    [first, second, third, fourth]
 }
 
 /// A line for each route, vertex and edge: points as `x y`, counts as `ends/crossings`, names as
@@ -63,16 +65,16 @@ fn lines(alloc: Global, picture: &Rounding) -> Result<String, AllocError> {
     Ok(text)
 }
 
-/// The rounding of the first `count` of the three segments, as lines.
+/// The rounding of the first `count` of the four segments, as lines.
 fn rounded(
     rt: &impl Abort,
     alloc: Global,
     count: usize,
-    ends: [[i64; 4]; 3],
+    ends: [[i64; 4]; 4],
 ) -> Result<String, Fail>
-    requires { count ≤ 3 }
+    requires { count ≤ 4 }
 {
-    let segments = three(rt, ends);
+    let segments = four(rt, ends);
     let picture = round(alloc, &segments[..count])?;
     Ok(lines(alloc, &picture)?)
 }
@@ -80,11 +82,11 @@ fn rounded(
 #[test]
 fn worked_drawings(rt: HostRuntime) -> Result<(), Fail> {
     for (row, count, ends, want) in [
-        ("nothing", 0, [UNUSED, UNUSED, UNUSED], ""),
+        ("nothing", 0, [UNUSED, UNUSED, UNUSED, UNUSED], ""),
         (
-            "a half exactly",
+            "half_exactly",
             2,
-            [[0, 0, 5, 2], [0, 2, 5, 0], UNUSED],
+            [[0, 0, 5, 2], [0, 2, 5, 0], UNUSED, UNUSED],
             "\
 1.1 0 0 3 1 5 2
 1.2 0 2 3 1 5 0
@@ -100,9 +102,9 @@ fn worked_drawings(rt: HostRuntime) -> Result<(), Fail> {
 ",
         ),
         (
-            "the closed corner",
+            "closed_corner",
             3,
-            [[0, 0, 5, 2], [0, 2, 5, 0], [2, 1, 3, 0]],
+            [[0, 0, 5, 2], [0, 2, 5, 0], [2, 1, 3, 0], UNUSED],
             "\
 1.1 0 0 2 1 3 1 5 2
 1.2 0 2 2 1 3 1 5 0
@@ -123,9 +125,9 @@ fn worked_drawings(rt: HostRuntime) -> Result<(), Fail> {
 ",
         ),
         (
-            "the open corner",
+            "open_corner",
             3,
-            [[0, 0, 5, 2], [0, 2, 5, 0], [3, 0, 4, 1]],
+            [[0, 0, 5, 2], [0, 2, 5, 0], [3, 0, 4, 1], UNUSED],
             "\
 1.1 0 0 3 1 4 1 5 2
 1.2 0 2 3 1 4 1 5 0
@@ -146,9 +148,9 @@ fn worked_drawings(rt: HostRuntime) -> Result<(), Fail> {
 ",
         ),
         (
-            "the same ends twice",
+            "same_ends_twice",
             2,
-            [[0, 0, 4, 0], [4, 0, 0, 0], UNUSED],
+            [[0, 0, 4, 0], [4, 0, 0, 0], UNUSED, UNUSED],
             "\
 1.1 0 0 4 0
 1.2 0 0 4 0
@@ -158,9 +160,9 @@ fn worked_drawings(rt: HostRuntime) -> Result<(), Fail> {
 ",
         ),
         (
-            "overlap and T-touch",
+            "overlap_and_touch",
             3,
-            [[0, 0, 10, 0], [5, 0, 15, 0], [5, 0, 5, 5]],
+            [[0, 0, 10, 0], [5, 0, 15, 0], [5, 0, 5, 5], UNUSED],
             "\
 1.1 0 0 5 0 10 0
 1.2 5 0 10 0 15 0
@@ -174,6 +176,34 @@ fn worked_drawings(rt: HostRuntime) -> Result<(), Fail> {
 5 0 5 5 1.3
 5 0 10 0 1.1 1.2
 10 0 15 0 1.2
+",
+        ),
+        (
+            "star",
+            4,
+            [[-3, 0, 3, 0], [0, -3, 0, 3], [-3, -3, 3, 3], [-3, 3, 3, -3]],
+            "\
+1.1 -3 0 0 0 3 0
+1.2 0 -3 0 0 0 3
+1.3 -3 -3 0 0 3 3
+1.4 -3 3 0 0 3 -3
+-3 -3 1/0
+-3 0 1/0
+-3 3 1/0
+0 -3 1/0
+0 0 0/6
+0 3 1/0
+3 -3 1/0
+3 0 1/0
+3 3 1/0
+-3 -3 0 0 1.3
+-3 0 0 0 1.1
+-3 3 0 0 1.4
+0 -3 0 0 1.2
+0 0 0 3 1.2
+0 0 3 -3 1.4
+0 0 3 0 1.1
+0 0 3 3 1.3
 ",
         ),
     ] {

@@ -1,5 +1,5 @@
 -- Edge after edge, a pass moves from what is left to the map. Two neighbours differ, since no point stands twice.
-use Rattle.std.proofs.Common.{◌∙◌, ap, sym, subst, refl, fold, map, List}
+use Rattle.std.proofs.Common.{◌∙◌, ap, sym, subst, fold, map, List, rules}
 use Rattle.std.specs.List.{IsDistinct}
 use Rattle.grid_core.specs.declared.point.Point.{Point}
 use Rattle.grid_core.specs.Vector.{point_eq}
@@ -18,20 +18,21 @@ loop-i-init c =
     λ k. fold with_pass c.args.gathered.now.entries
     (map (λ (e : EdgeEnds). (e, name k)) (edges_along (points k)))
 
-pub unreachable-requires : goal.unreachable-requires
-unreachable-requires c =
+pub unwrap-edge-requires : goal.unwrap-edge-requires
+unwrap-edge-requires c =
     let points = c.as_slice-points.ensures ∙ ap (λ (r : RoutedSegment). r.points) c.route.view_is in
-    neighbours_differ c.as_slice-points.result.now c.loop-i.i origin
+    let differ = neighbours_differ c.as_slice-points.result.now c.loop-i.i origin
     (subst (λ (ps : List Point). IsDistinct point_eq ps) (sym points) c.requires)
-    c.loop-i.auto.i c.loop-i-test.true (c.in-None.ensures.equal.0 refl)
+    c.loop-i.auto.i c.loop-i-test.true in
+    search (rules, differ)
 
 pub loop-i-preserved : goal.loop-i-preserved
 loop-i-preserved c =
     pass_added c.loop-i.gathered.entries c.add_pass.new.gathered.entries
     (fold with_pass c.args.gathered.now.entries (passes_of c.args.route.now))
-    c.as_slice-points.result.now c.name-name.result c.loop-i.i origin c.in-Some.edge
+    c.as_slice-points.result.now c.name-name.result c.loop-i.i origin c.unwrap-edge.result
     c.loop-i.auto.i c.loop-i-test.true
-    c.in-Some.ensures.value c.loop-i.invariant c.in_ok-add_pass-in-Some.ensures
+    (search rules) c.loop-i.invariant c.in_ok-add_pass.ensures
 
 pub returns : goal.returns
 returns c =

@@ -10,13 +10,13 @@ use Rattle.grid_core.specs.Segment.{Segment, IsSegment}
 use Rattle.grid_core.specs.Rounding.{crossing_pixel}
 use Rattle.round_plain.proofs.Pairs.{found_some, found_none}
 use Rattle.round_plain.proofs.hot_pixels.push_crossings.Goals as goal
-use Rattle.round_plain.proofs.hot_pixels.push_crossings.Goals.{in-Some+in_ok-push-in-Some, in-None}
+use Rattle.round_plain.proofs.hot_pixels.push_crossings.Goals.{in-Some+in_ok-push, in_default}
 
 pub loop-t-preserved : goal.loop-t-preserved
 loop-t-preserved c = elim c.match-crossing_pixel.branch [
-  | in-Some+in_ok-push-in-Some w ↦
+  | in-Some+in_ok-push w ↦
       (let now = ap (λ (v : Vec Point Global). v.items) w.found-is
-      ∙ w.in_ok-push-in-Some.ensures.items in
+      ∙ w.in_ok-push.ensures.items in
       let here = subst (λ (t : Segment). IsSegment (2 ^ 30) t) (sym c.t-item.is)
       (c.requires.others c.loop-t.t-index c.t-item.result c.loop-t-test.true) in
       record {
@@ -30,14 +30,14 @@ loop-t-preserved c = elim c.match-crossing_pixel.branch [
             (All-push (IsWithin (2 ^ 30)) c.loop-t.found.items w.in-Some.h
             c.loop-t.invariant.within (w.in-Some.ensures.within c.requires.first here));
       })
-  | in-None w ↦
+  | in_default w ↦
       (let now = ap (λ (v : Vec Point Global). v.items) w.found-is in
       record {
         value =
             now ∙ c.loop-t.invariant.value
             ∙ found_none (crossing_pixel c.args.s.now) c.args.found.now.items c.args.others.now
             c.loop-t.t-index c.t-item.result c.loop-t-test.true c.t-item.is
-            w.in-None.ensures.value;
+            w.in_default.ensures.value;
         within = subst (λ (xs : List Point). All (IsWithin (2 ^ 30)) xs)
             (sym now) c.loop-t.invariant.within;
       })
