@@ -1,7 +1,10 @@
-//! The lines of an arrangement, and the whole of it. After `Memory` a prefix may have been appended.
+//! The lines of an arrangement, and the whole of it. After `Memory` a prefix may have been
+//! appended.
 
 ghost use Rattle.std.specs.Prelude.{◌≡◌, ◌++◌, OnOk, IfOk, flat_map};
-ghost use Rattle.canon_write.specs.Text.{segment_text, segment_line, vertex_line, edge_line, spaced_point, spaced_name, segments_part, vertices_part, edges_part, picture_text};
+ghost use Rattle.canon_write.specs.Text.{spaced_point, spaced_name, segment_text, segment_line};
+ghost use Rattle.canon_write.specs.Text.{vertex_line, edge_line, segments_part, vertices_part};
+ghost use Rattle.canon_write.specs.Text.{edges_part, picture_text};
 
 use crate::pieces::{
     push_count, push_name, push_point, push_spaced_name, push_spaced_point, push_text,
@@ -32,8 +35,7 @@ fn push_segments(out: &mut Vec<u8>, routes: &[Routed]) -> Result<(), Memory>
     push_text(out, "segments ")?;
     push_count(out, routes.len() as u64)?;
     push_text(out, "\n")?;
-    push_segment_lines(out, routes)?;
-    Ok(())
+    push_segment_lines(out, routes)
 }
 
 fn push_segment_lines(out: &mut Vec<u8>, routes: &[Routed]) -> Result<(), Memory>
@@ -53,8 +55,7 @@ fn push_segment_line(out: &mut Vec<u8>, routed: &Routed) -> Result<(), Memory>
     push_text(out, " route ")?;
     push_count(out, points.len() as u64)?;
     push_points(out, points)?;
-    push_text(out, "\n")?;
-    Ok(())
+    push_text(out, "\n")
 }
 
 fn push_segment(out: &mut Vec<u8>, ur: &Ur) -> Result<(), Memory>
@@ -62,8 +63,7 @@ fn push_segment(out: &mut Vec<u8>, ur: &Ur) -> Result<(), Memory>
 {
     push_name(out, ur.name())?;
     push_spaced_point(out, ur.p())?;
-    push_spaced_point(out, ur.q())?;
-    Ok(())
+    push_spaced_point(out, ur.q())
 }
 
 fn push_points(out: &mut Vec<u8>, points: &[Point]) -> Result<(), Memory>
@@ -82,8 +82,7 @@ fn push_vertices(out: &mut Vec<u8>, vertices: &[Vertex]) -> Result<(), Memory>
     push_text(out, "vertices ")?;
     push_count(out, vertices.len() as u64)?;
     push_text(out, "\n")?;
-    push_vertex_lines(out, vertices)?;
-    Ok(())
+    push_vertex_lines(out, vertices)
 }
 
 fn push_vertex_lines(out: &mut Vec<u8>, vertices: &[Vertex]) -> Result<(), Memory>
@@ -103,8 +102,7 @@ fn push_vertex_line(out: &mut Vec<u8>, vertex: Vertex) -> Result<(), Memory>
     push_count(out, u64::from(vertex.ends))?;
     push_text(out, " crossings ")?;
     push_count(out, u64::from(vertex.crossings))?;
-    push_text(out, "\n")?;
-    Ok(())
+    push_text(out, "\n")
 }
 
 /// How many edges, then each with its bundle.
@@ -114,8 +112,7 @@ fn push_edges(out: &mut Vec<u8>, edges: &[Bundled]) -> Result<(), Memory>
     push_text(out, "edges ")?;
     push_count(out, edges.len() as u64)?;
     push_text(out, "\n")?;
-    push_edge_lines(out, edges)?;
-    Ok(())
+    push_edge_lines(out, edges)
 }
 
 fn push_edge_lines(out: &mut Vec<u8>, edges: &[Bundled]) -> Result<(), Memory>
@@ -136,8 +133,7 @@ fn push_edge_line(out: &mut Vec<u8>, bundled: &Bundled) -> Result<(), Memory>
     push_text(out, " names ")?;
     push_count(out, names.len() as u64)?;
     push_names(out, names)?;
-    push_text(out, "\n")?;
-    Ok(())
+    push_text(out, "\n")
 }
 
 fn push_names(out: &mut Vec<u8>, names: &[Name]) -> Result<(), Memory>

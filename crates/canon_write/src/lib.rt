@@ -7,7 +7,7 @@
 //!    vertices 2                                  then a line for each hot pixel, by x and then y
 //!    0 0 ends 1 crossings 0
 //!    10 0 ends 1 crossings 0
-//!    edges 1                                     then a line for each edge, by lesser and then greater end
+//!    edges 1                                     then a line for each edge, by its ends in order
 //!    0 0 10 0 names 1 1.1
 //!    end
 //! ```

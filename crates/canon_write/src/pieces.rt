@@ -1,4 +1,5 @@
-//! Numbers, names and points as text, appended to a buffer. After `Memory` a prefix may have been appended.
+//! Numbers, names and points as text, appended to a buffer. After `Memory` a prefix may have been
+//! appended.
 
 ghost use Rattle.std.specs.Prelude.{◌≡◌, ◌++◌, OnOk, decimal};
 ghost use Rattle.std.specs.Fmt.{signed_decimal};
@@ -20,8 +21,7 @@ pub fn push_count(out: &mut Vec<u8>, count: u64) -> Result<(), Memory>
     ensures { OnOk result (out.new.items ≡ out.old.items ++ decimal count) }
 {
     let mut buffer = Buffer::new();
-    out.extend_from_slice(buffer.format(count).as_bytes())?;
-    Ok(())
+    push_text(out, buffer.format(count))
 }
 
 /// A coordinate, in decimal, a negative one with a minus sign.
@@ -29,8 +29,7 @@ pub fn push_signed(out: &mut Vec<u8>, number: i64) -> Result<(), Memory>
     ensures { OnOk result (out.new.items ≡ out.old.items ++ signed_decimal number) }
 {
     let mut buffer = Buffer::new();
-    out.extend_from_slice(buffer.format(number).as_bytes())?;
-    Ok(())
+    push_text(out, buffer.format(number))
 }
 
 /// The name, as `f.k`.
@@ -39,8 +38,7 @@ pub fn push_name(out: &mut Vec<u8>, name: Name) -> Result<(), Memory>
 {
     push_count(out, u64::from(name.editor()))?;
     push_text(out, ".")?;
-    push_count(out, u64::from(name.serial()))?;
-    Ok(())
+    push_count(out, u64::from(name.serial()))
 }
 
 /// The point, as `x y`.
@@ -49,8 +47,7 @@ pub fn push_point(out: &mut Vec<u8>, at: Point) -> Result<(), Memory>
 {
     push_signed(out, at.x)?;
     push_text(out, " ")?;
-    push_signed(out, at.y)?;
-    Ok(())
+    push_signed(out, at.y)
 }
 
 /// A space, then the point.
@@ -58,8 +55,7 @@ pub fn push_spaced_point(out: &mut Vec<u8>, at: Point) -> Result<(), Memory>
     ensures { OnOk result (out.new.items ≡ out.old.items ++ spaced_point at) }
 {
     push_text(out, " ")?;
-    push_point(out, at)?;
-    Ok(())
+    push_point(out, at)
 }
 
 /// A space, then the name.
@@ -67,6 +63,5 @@ pub fn push_spaced_name(out: &mut Vec<u8>, name: Name) -> Result<(), Memory>
     ensures { OnOk result (out.new.items ≡ out.old.items ++ spaced_name name) }
 {
     push_text(out, " ")?;
-    push_name(out, name)?;
-    Ok(())
+    push_name(out, name)
 }

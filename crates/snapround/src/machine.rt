@@ -107,7 +107,8 @@ impl Machine {
     fn step(&mut self, command: Command, out: &mut Vec<u8>) -> Result<(), Memory>
         requires { allowed self.old command ≡ Some command }
         ensures state { OnOk result (self.new ≡ after_command self.old command) }
-        ensures reply { OnOk result (out.new.items ≡ out.old.items ++ command_reply self.old command) }
+        ensures reply { OnOk result
+            (out.new.items ≡ out.old.items ++ command_reply self.old command) }
         ensures as_before { OnErr result (self.new ≡ self.old) }
     {
         match command {

@@ -35,7 +35,7 @@ pub fn push_bad(out: &mut Vec<u8>, number: usize) -> Result<(), Memory>
     ensures { OnOk result (out.new.items ≡ out.old.items ++ bad_text number) }
 {
     push_text(out, b"bad ")?;
-    push_number(out, number)?;
+    push_number(out, number as u64)?;
     push_text(out, b"\n")
 }
 
@@ -44,7 +44,7 @@ pub fn push_ready(out: &mut Vec<u8>, serial: u16) -> Result<(), Memory>
     ensures { OnOk result (out.new.items ≡ out.old.items ++ ready_text serial) }
 {
     push_text(out, b"1 ready 1.")?;
-    push_number(out, usize::from(serial))?;
+    push_number(out, u64::from(serial))?;
     push_text(out, b"\n")
 }
 
@@ -69,12 +69,12 @@ pub fn push_commit(out: &mut Vec<u8>, number: u32) -> Result<(), Memory>
     ensures { OnOk result (out.new.items ≡ out.old.items ++ commit_text number) }
 {
     push_text(out, b"1 commit ")?;
-    push_number(out, number as usize)?;
+    push_number(out, u64::from(number))?;
     push_text(out, b"\n")
 }
 
 /// A number in decimal, without leading zeros.
-fn push_number(out: &mut Vec<u8>, number: usize) -> Result<(), Memory>
+fn push_number(out: &mut Vec<u8>, number: u64) -> Result<(), Memory>
     ensures { OnOk result (out.new.items ≡ out.old.items ++ decimal number) }
 {
     let mut digits = Buffer::new();
