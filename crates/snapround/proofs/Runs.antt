@@ -20,28 +20,47 @@ pub begins : (input : List ℕ) (w : Option (List ℕ)) → IsAnswered input sta
 begins input w = record { within = omega arith; replied = ([], Appends-nil w, refl); bad = refl }
 
 -- one line more
-pub line_replies : (st : State) (n : ℕ) (rest line next : List ℕ) → lines_of rest ≡ line ∷ lines_of next → replies st n (lines_of rest) ≡ reply st n (accepted st line) ++ replies (after st (accepted st line)) (n + 1) (lines_of next)
+pub line_replies : (st : State) (n : ℕ) (rest line next : List ℕ)
+    → lines_of rest ≡ line ∷ lines_of next
+    → replies st n (lines_of rest) ≡ reply st n (accepted st line) ++ replies (after st (accepted st line)) (n + 1) (lines_of next)
 unfolding replies
 line_replies st n rest line next e = ap (replies st n) e
 
-line_is_bad : (st : State) (rest line next : List ℕ) → lines_of rest ≡ line ∷ lines_of next → some_bad st (lines_of rest) ≡ (is_none (accepted st line) || some_bad (after st (accepted st line)) (lines_of next))
+line_is_bad : (st : State) (rest line next : List ℕ)
+    → lines_of rest ≡ line ∷ lines_of next
+    → some_bad st (lines_of rest) ≡ (is_none (accepted st line) || some_bad (after st (accepted st line)) (lines_of next))
 unfolding some_bad
 line_is_bad st rest line next e = ap (some_bad st) e
 
 -- a front of a list is a front of a longer one
-prefix_longer : (old new : Option (List ℕ)) (bs more : List ℕ) → WritesPrefix old new bs → WritesPrefix old new (bs ++ more)
+prefix_longer : (old new : Option (List ℕ)) (bs more : List ℕ)
+    → WritesPrefix old new bs
+    → WritesPrefix old new (bs ++ more)
 prefix_longer old new bs more p =
     (min p.0 (length bs), subst (Appends old new) (sym (take-append-le (min p.0 (length bs)) bs more (omega arith) ∙ take_min p.0 bs)) p.1)
 
 -- the reply to the next line was written
-pub goes_on : (input : List ℕ) (st : State) (number : ℕ) (some : Bool) (rest : List ℕ) (old w new : Option (List ℕ)) (line next text : List ℕ) (bad : Bool) (st' : State) → IsAnswered input st number some rest old w → lines_of rest ≡ line ∷ lines_of next → length next < length rest → bad ≡ is_none (accepted st line) → st' ≡ after st (accepted st line) → text ≡ reply st (number + 1) (accepted st line) → Appends w new text → IsAnswered input st' (number + 1) (some || bad) next old new
+pub goes_on : (input : List ℕ) (st : State) (number : ℕ) (some : Bool) (rest : List ℕ)
+    (old w new : Option (List ℕ)) (line next text : List ℕ) (bad : Bool) (st' : State)
+    → IsAnswered input st number some rest old w
+    → lines_of rest ≡ line ∷ lines_of next
+    → length next < length rest
+    → bad ≡ is_none (accepted st line)
+    → st' ≡ after st (accepted st line)
+    → text ≡ reply st (number + 1) (accepted st line)
+    → Appends w new text
+    → IsAnswered input st' (number + 1) (some || bad) next old new
 goes_on input st number some rest old w new line next text bad st' h e shorter is_bad is_after is_reply p =
     let done = h.replied.0 in
     let further = replies (after st (accepted st line)) (number + 1 + 1) (lines_of next) in
     let all : output input ≡ (done ++ text) ++ further =
-    h.replied.2 ∙ ap (λ l. done ++ l) (line_replies st (number + 1) rest line next e ∙ ap (λ t. t ++ further) (sym is_reply)) ∙ sym (append_assoc done text further) in
+    h.replied.2
+    ∙ ap (λ l. done ++ l) (line_replies st (number + 1) rest line next e ∙ ap (λ t. t ++ further) (sym is_reply))
+    ∙ sym (append_assoc done text further) in
     let bads : has_bad_line input ≡ (some || bad || some_bad (after st (accepted st line)) (lines_of next)) =
-    h.bad ∙ ap (λ b. some || b) (line_is_bad st rest line next e ∙ ap (λ b. b || some_bad (after st (accepted st line)) (lines_of next)) (sym is_bad)) ∙ sym (or_assoc some bad (some_bad (after st (accepted st line)) (lines_of next))) in
+    h.bad
+    ∙ ap (λ b. some || b) (line_is_bad st rest line next e ∙ ap (λ b. b || some_bad (after st (accepted st line)) (lines_of next)) (sym is_bad))
+    ∙ sym (or_assoc some bad (some_bad (after st (accepted st line)) (lines_of next))) in
     record {
       within = omega (arith, h.within);
       replied = (done ++ text, Appends-trans old w new done text h.replied.1 p, all ∙ ap (λ s. (done ++ text) ++ replies s (number + 1 + 1) (lines_of next)) (sym is_after));
@@ -49,16 +68,27 @@ goes_on input st number some rest old w new line next text bad st' h e shorter i
     }
 
 -- a prefix of the reply to the next line was written
-pub fails : (input : List ℕ) (st : State) (number : ℕ) (some : Bool) (rest : List ℕ) (old w new : Option (List ℕ)) (line next text : List ℕ) → IsAnswered input st number some rest old w → lines_of rest ≡ line ∷ lines_of next → text ≡ reply st (number + 1) (accepted st line) → WritesPrefix w new text → WritesPrefix old new (output input)
+pub fails : (input : List ℕ) (st : State) (number : ℕ) (some : Bool) (rest : List ℕ)
+    (old w new : Option (List ℕ)) (line next text : List ℕ)
+    → IsAnswered input st number some rest old w
+    → lines_of rest ≡ line ∷ lines_of next
+    → text ≡ reply st (number + 1) (accepted st line)
+    → WritesPrefix w new text
+    → WritesPrefix old new (output input)
 fails input st number some rest old w new line next text h e is_reply p =
     let done = h.replied.0 in
     let further = replies (after st (accepted st line)) (number + 1 + 1) (lines_of next) in
     let all : output input ≡ (done ++ text) ++ further =
-    h.replied.2 ∙ ap (λ l. done ++ l) (line_replies st (number + 1) rest line next e ∙ ap (λ t. t ++ further) (sym is_reply)) ∙ sym (append_assoc done text further) in
+    h.replied.2
+    ∙ ap (λ l. done ++ l) (line_replies st (number + 1) rest line next e ∙ ap (λ t. t ++ further) (sym is_reply))
+    ∙ sym (append_assoc done text further) in
     subst (WritesPrefix old new) (sym all) (prefix_longer old new (done ++ text) further (prefix_more old w new done text h.replied.1 p))
 
 -- nothing was written of the reply to the next line
-pub stops : (input : List ℕ) (st : State) (number : ℕ) (some : Bool) (rest : List ℕ) (old new : Option (List ℕ)) → IsAnswered input st number some rest old new → WritesPrefix old new (output input)
+pub stops : (input : List ℕ) (st : State) (number : ℕ) (some : Bool) (rest : List ℕ)
+    (old new : Option (List ℕ))
+    → IsAnswered input st number some rest old new
+    → WritesPrefix old new (output input)
 stops input st number some rest old new h =
     let done = h.replied.0 in
     let front : WritesPrefix old new done = (length done, subst (Appends old new) (sym (take_all (length done) done (omega arith))) h.replied.1) in
@@ -70,11 +100,19 @@ no_lines [] e = refl
 no_lines (b ∷ bs) e = absurd (omega arith)
 
 -- no line is left
-pub ends : (input : List ℕ) (st : State) (number : ℕ) (some : Bool) (rest : List ℕ) (old new : Option (List ℕ)) → IsAnswered input st number some rest old new → length rest ≡ 0 → Appends old new (output input) × (some ≡ has_bad_line input)
+pub ends : (input : List ℕ) (st : State) (number : ℕ) (some : Bool) (rest : List ℕ)
+    (old new : Option (List ℕ))
+    → IsAnswered input st number some rest old new
+    → length rest ≡ 0
+    → Appends old new (output input) × (some ≡ has_bad_line input)
 unfolding replies some_bad
 ends input st number some rest old new h none =
     let no_line = no_lines rest none in
     let done = h.replied.0 in
-    let all : output input ≡ done = h.replied.2 ∙ ap (λ ls. done ++ replies st (number + 1) ls) no_line ∙ append-nil done in
-    let bads : has_bad_line input ≡ some = h.bad ∙ ap (λ ls. some || some_bad st ls) no_line ∙ or-false some in
+    let all : output input ≡ done = h.replied.2
+    ∙ ap (λ ls. done ++ replies st (number + 1) ls) no_line
+    ∙ append-nil done in
+    let bads : has_bad_line input ≡ some = h.bad
+    ∙ ap (λ ls. some || some_bad st ls) no_line
+    ∙ or-false some in
     (subst (Appends old new) (sym all) h.replied.1, sym bads)

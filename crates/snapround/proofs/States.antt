@@ -34,26 +34,40 @@ inside a h =
     let y : nat_lt 1048576 (unsigned_abs a.y) ≡ false = grind (arith, nat_tests, h.y) in
     simp (x, y)
 
-unlike : (a b : Point) → (point_cmp a b ≡ Less) ⊎ (point_cmp b a ≡ Less) → is_eq (point_cmp a b) ≡ false
+unlike : (a b : Point)
+    → (point_cmp a b ≡ Less) ⊎ (point_cmp b a ≡ Less)
+    → is_eq (point_cmp a b) ≡ false
 unlike a b h = ⊎_elim (λ e. ap is_eq e) (λ e. ap is_eq (point_lesser b a e)) h
 
-not_refused_of : (st : State) (in_order : Bool) (name : Label) (a b : Point) → is_some st.prepared ≡ false → IsSegment 1048576 (cond in_order (record { name = name; p = a; q = b }) (record { name = name; p = b; q = a })) → refusal st a b ≡ None
+not_refused_of : (st : State) (in_order : Bool) (name : Label) (a b : Point)
+    → is_some st.prepared ≡ false
+    → IsSegment 1048576 (cond in_order (record { name = name; p = a; q = b }) (record { name = name; p = b; q = a }))
+    → refusal st a b ≡ None
 not_refused_of st true name a b free s =
     simp (free, inside a s.p_within, inside b s.q_within, unlike a b (inl s.ordered))
 not_refused_of st false name a b free s =
     simp (free, inside a s.q_within, inside b s.p_within, unlike a b (inr s.ordered))
 
 -- an insertion that makes a segment isn't refused
-pub not_refused : (st : State) (name : Label) (a b : Point) → is_some st.prepared ≡ false → IsSegment 1048576 (segment_of name a b) → refusal st a b ≡ None
+pub not_refused : (st : State) (name : Label) (a b : Point)
+    → is_some st.prepared ≡ false
+    → IsSegment 1048576 (segment_of name a b)
+    → refusal st a b ≡ None
 not_refused st name a b free s = not_refused_of st (is_lt (point_cmp a b)) name a b free s
 
 -- a serial up to n comes before serial n + 1, and that one after it
-before : (n : ℕ) (t : Segment) (name : Label) → IsDrawnBy n t → name ≡ record { editor = 1; serial = n + 1 } → label_cmp t.name name ≡ Less
+before : (n : ℕ) (t : Segment) (name : Label)
+    → IsDrawnBy n t
+    → name ≡ record { editor = 1; serial = n + 1 }
+    → label_cmp t.name name ≡ Less
 before n t name d e =
     let lower : nat_lt t.name.serial (n + 1) ≡ true = grind (arith, nat_tests, d.serial) in
     simp (e, d.editor, lower)
 
-behind : (n : ℕ) (t : Segment) (name : Label) → IsDrawnBy n t → name ≡ record { editor = 1; serial = n + 1 } → label_cmp name t.name ≡ Greater
+behind : (n : ℕ) (t : Segment) (name : Label)
+    → IsDrawnBy n t
+    → name ≡ record { editor = 1; serial = n + 1 }
+    → label_cmp name t.name ≡ Greater
 behind n t name d e =
     let not_lower : nat_lt (n + 1) t.name.serial ≡ false = grind (arith, nat_tests, d.serial) in
     let not_same : (n + 1 == t.name.serial) ≡ false = grind (arith, nat_tests, d.serial) in
@@ -71,17 +85,26 @@ keeps_none p (t ∷ ts) h =
     let fails = All-head (λ u. p u ≡ false) t ts h in
     simp (fails, keeps_none p ts (All-tail (λ u. p u ≡ false) t ts h))
 
-place_is_end : (n : ℕ) (ss : List Segment) (s : Segment) → All (IsDrawnBy n) ss → s.name ≡ record { editor = 1; serial = n + 1 } → with_segment ss s ≡ ss ++ s ∷ []
+place_is_end : (n : ℕ) (ss : List Segment) (s : Segment)
+    → All (IsDrawnBy n) ss
+    → s.name ≡ record { editor = 1; serial = n + 1 }
+    → with_segment ss s ≡ ss ++ s ∷ []
 place_is_end n ss s drawn named =
     let front = keeps_all (λ t. is_lt (label_cmp t.name s.name)) ss (All-weaker (IsDrawnBy n) (λ t. is_lt (label_cmp t.name s.name) ≡ true) (λ t d. ap is_lt (before n t s.name d named)) ss drawn) in
     let back = keeps_none (λ t. is_lt (label_cmp s.name t.name)) ss (All-weaker (IsDrawnBy n) (λ t. is_lt (label_cmp s.name t.name) ≡ false) (λ t d. ap is_lt (behind n t s.name d named)) ss drawn) in
     simp (front, back)
 
-each_below : (x : Label) (ts : List Segment) (s : Segment) → AllByRecursion (λ y. label_cmp x y ≡ Less) (names ts) → label_cmp x s.name ≡ Less → AllByRecursion (λ y. label_cmp x y ≡ Less) (names (ts ++ s ∷ []))
+each_below : (x : Label) (ts : List Segment) (s : Segment)
+    → AllByRecursion (λ y. label_cmp x y ≡ Less) (names ts)
+    → label_cmp x s.name ≡ Less
+    → AllByRecursion (λ y. label_cmp x y ≡ Less) (names (ts ++ s ∷ []))
 each_below x [] s h k = (k, tt)
 each_below x (t ∷ ts) s h k = (h.0, each_below x ts s h.1 k)
 
-rising_push : (ss : List Segment) (s : Segment) → IsStrictlySortedBy label_cmp (names ss) → All (λ t. label_cmp t.name s.name ≡ Less) ss → IsStrictlySortedBy label_cmp (names (ss ++ s ∷ []))
+rising_push : (ss : List Segment) (s : Segment)
+    → IsStrictlySortedBy label_cmp (names ss)
+    → All (λ t. label_cmp t.name s.name ≡ Less) ss
+    → IsStrictlySortedBy label_cmp (names (ss ++ s ∷ []))
 unfolding IsStrictlySortedBy
 rising_push [] s h k = (tt, tt)
 rising_push (t ∷ ts) s h k =
@@ -91,26 +114,38 @@ next_of : (st : State) (s : Segment) → IsState st → st.prepared ≡ Some s �
 next_of st s h e = MatchOption-at_some (Unit {0}) (IsNext st) s e h.prepared
 
 -- the prepared segment's place by name is the end
-committed_at_end : (st : State) (s : Segment) → IsState st → st.prepared ≡ Some s → with_segment st.live s ≡ st.live ++ s ∷ []
+committed_at_end : (st : State) (s : Segment)
+    → IsState st
+    → st.prepared ≡ Some s
+    → with_segment st.live s ≡ st.live ++ s ∷ []
 committed_at_end st s h e =
     let next = next_of st s h e in
     let n = st.serial - 1 in
     let last : st.serial ≡ n + 1 = omega (arith, next.serial) in
-    let named : s.name ≡ record { editor = 1; serial = n + 1 } = next.named ∙ ap (λ k. record { editor = 1; serial = k }) last in
+    let named : s.name ≡ record { editor = 1; serial = n + 1 } = next.named
+    ∙ ap (λ k. record { editor = 1; serial = k }) last in
     place_is_end n st.live s next.before named
 
 -- a commit draws the prepared segment at the end of the live list
-pub committed : (st : State) (s : Segment) → IsState st → st.prepared ≡ Some s → record st { live = st.live ++ s ∷ []; prepared = None; commits = st.commits + 1 } ≡ after_commit st st.prepared
+pub committed : (st : State) (s : Segment)
+    → IsState st
+    → st.prepared ≡ Some s
+    → record st { live = st.live ++ s ∷ []; prepared = None; commits = st.commits + 1 } ≡ after_commit st st.prepared
 committed st s h e =
-    ap (λ (ss : List Segment). record st { live = ss; prepared = None; commits = st.commits + 1 }) (sym (committed_at_end st s h e)) ∙ ap (after_commit st) (sym e)
+    ap (λ (ss : List Segment). record st { live = ss; prepared = None; commits = st.commits + 1 }) (sym (committed_at_end st s h e))
+    ∙ ap (after_commit st) (sym e)
 
 -- the state after a commit
-pub commit_kept : (st : State) (s : Segment) → IsState st → st.prepared ≡ Some s → IsState (record st { live = st.live ++ s ∷ []; prepared = None; commits = st.commits + 1 })
+pub commit_kept : (st : State) (s : Segment)
+    → IsState st
+    → st.prepared ≡ Some s
+    → IsState (record st { live = st.live ++ s ∷ []; prepared = None; commits = st.commits + 1 })
 commit_kept st s h e =
     let next = next_of st s h e in
     let n = st.serial - 1 in
     let last : st.serial ≡ n + 1 = omega (arith, next.serial) in
-    let named : s.name ≡ record { editor = 1; serial = n + 1 } = next.named ∙ ap (λ k. record { editor = 1; serial = k }) last in
+    let named : s.name ≡ record { editor = 1; serial = n + 1 } = next.named
+    ∙ ap (λ k. record { editor = 1; serial = k }) last in
     let below = All-weaker (IsDrawnBy n) (λ t. label_cmp t.name s.name ≡ Less) (λ t d. before n t s.name d named) st.live next.before in
     record {
       live = record { rising = rising_push st.live s h.live.rising below; within = All-push (IsSegment 1048576) st.live s h.live.within next.within };
@@ -123,7 +158,12 @@ commit_kept st s h e =
     }
 
 -- the state after an insertion that is prepared
-pub prepare_kept : (st : State) (s : Segment) → IsState st → st.inserts < 64 → IsSegment 1048576 s → s.name ≡ record { editor = 1; serial = st.serial + 1 } → IsState (record st { prepared = Some s; serial = st.serial + 1; inserts = st.inserts + 1 })
+pub prepare_kept : (st : State) (s : Segment)
+    → IsState st
+    → st.inserts < 64
+    → IsSegment 1048576 s
+    → s.name ≡ record { editor = 1; serial = st.serial + 1 }
+    → IsState (record st { prepared = Some s; serial = st.serial + 1; inserts = st.inserts + 1 })
 prepare_kept st s h room within named =
     let last : st.serial ≡ st.serial + 1 - 1 = omega arith in
     record {
@@ -143,7 +183,10 @@ prepare_kept st s h room within named =
     }
 
 -- the state after an insertion that is refused
-pub refuse_kept : (st : State) → IsState st → st.inserts < 64 → IsState (record st { inserts = st.inserts + 1 })
+pub refuse_kept : (st : State)
+    → IsState st
+    → st.inserts < 64
+    → IsState (record st { inserts = st.inserts + 1 })
 refuse_kept st h room =
     record {
       live = h.live;
@@ -155,7 +198,8 @@ refuse_kept st h room =
       inserts = omega arith;
     }
 
-named_of : (in_order : Bool) (name : Label) (a b : Point) → (cond in_order (record { name = name; p = a; q = b }) (let s : Segment = record { name = name; p = b; q = a } in s)).name ≡ name
+named_of : (in_order : Bool) (name : Label) (a b : Point)
+    → (cond in_order (record { name = name; p = a; q = b }) (let s : Segment = record { name = name; p = b; q = a } in s)).name ≡ name
 named_of true name a b = refl
 named_of false name a b = refl
 

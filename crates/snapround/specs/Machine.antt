@@ -13,7 +13,8 @@ use Rattle.snapround.specs.declared.reply.Refusal.TheVariants.{Busy, Range, Poin
 use Rattle.snapround.specs.Script.{command_of, lines_of}
 use Rattle.snapround.specs.Reply.{bad_text, ready_text, refused_text, none_text, commit_text}
 
--- the live list, the change that is prepared, the number of commits, the last serial, and the insert lines taken so far
+-- the live list, the change that is prepared, the number of commits, the last serial, and the insert
+-- lines taken so far
 pub record State : Type 0 where
   pub live : List Segment
   pub prepared : Option Segment
@@ -38,8 +39,8 @@ pub record IsNext (st : State) (s : Segment) : Type 0 where
   pub before : All (IsDrawnBy (st.serial - 1)) st.live
   pub commits : st.commits < st.serial
 
--- what holds in every state: serials rise along the live list, each commit drew one segment, and there are
--- no more commits than serials and no more serials than insert lines
+-- what holds in every state: serials rise along the live list, each commit drew one segment, and
+-- there are no more commits than serials and no more serials than insert lines
 pub record IsState (st : State) : Type 0 where
   pub live : IsLiveList 1048576 st.live
   pub drawn : All (IsDrawnBy st.serial) st.live

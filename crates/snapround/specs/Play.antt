@@ -1,5 +1,5 @@
 -- The call `play`: what each status says of what was read and written.
--- What speaks of bytes holds where the source tells its bytes, and the sink those that were written to it.
+-- What speaks of bytes holds where the source tells its bytes, and the sink those that were written.
 use Rattle.std.specs.Prelude.{◌≡◌, ◌≢◌, ℕ, ◌+◌, ◌≤◌, ◌⊎◌, Bool, true, false, List, [], ◌∷◌, length, Option, IfSome, codes, bytes_eq}
 use Rattle.std.specs.Io.KnownBytes.{Appends, Consumes, IsAtEnd}
 use Rattle.io_ports.specs.Causes.{Rose}
@@ -36,7 +36,8 @@ pub record Outside : Type 0 where
   pub write_faults : ℕ
   pub shut : Bool
 
--- what is told of a source, its bytes left and its faults, and of a sink, its bytes, its faults and whether it is shut
+-- what is told of a source, its bytes left and its faults, and of a sink, its bytes, its faults and
+-- whether it is shut
 abbrev pub outside : Option (List ℕ) → ℕ → Option (List ℕ) → ℕ → Bool → Outside
 outside left read_faults written write_faults shut =
     record {

@@ -12,7 +12,7 @@ abbrev pub put_front : ℕ → List (List ℕ) → List (List ℕ)
 put_front b [] = (b ∷ []) ∷ []
 put_front b (piece ∷ pieces) = (b ∷ piece) ∷ pieces
 
--- the lines of an input: a line feed ends each; what follows the last is a line where it isn't empty
+-- the lines of an input: a line feed ends each; what follows the last is a line unless it is empty
 unfoldable pub lines_of : List ℕ → List (List ℕ)
 lines_of [] = []
 lines_of (b ∷ bs) = if b == 10 then [] ∷ lines_of bs else put_front b (lines_of bs)
@@ -38,11 +38,13 @@ digits_of bs =
 abbrev pub whole_of : List ℕ → Option ℤ
 whole_of [] = None
 whole_of (b ∷ bs) =
-    if b == 45 then option_map (λ n. pos 0 -ℤ pos n) (digits_of bs) else option_map pos (digits_of (b ∷ bs))
+    if b == 45 then option_map (λ n. pos 0 -ℤ pos n) (digits_of bs)
+    else option_map pos (digits_of (b ∷ bs))
 
 -- the point of two whole numbers
 abbrev pub point_from : List ℕ → List ℕ → Option Point
-point_from x y = option_and_then (λ m. option_map (λ n. record { x = m; y = n }) (whole_of y)) (whole_of x)
+point_from x y =
+    option_and_then (λ m. option_map (λ n. record { x = m; y = n }) (whole_of y)) (whole_of x)
 
 -- the insertion between two points of two whole numbers each
 abbrev pub insert_from : List (List ℕ) → Option Command
@@ -64,6 +66,7 @@ command_from (editor ∷ word ∷ further) =
     if bytes_eq editor (codes "1") then request_of word further else None
 command_from _ = None
 
--- the command of a line: its fields are `1` `commit`, or `1` `show`, or `1` `insert` and four whole numbers
+-- the command of a line: its fields are `1` `commit`, or `1` `show`, or `1` `insert` and four whole
+-- numbers
 abbrev pub command_of : List ℕ → Option Command
 command_of line = command_from (fields_of line)

@@ -1,6 +1,7 @@
 //! The machine of one editor: what each command changes, and its reply.
 
-ghost use Rattle.std.specs.Prelude.{◌≡◌, ◌<◌, ◌++◌, Some, None, MatchResult, IfOk, OnOk, OnErr, is_none};
+ghost use Rattle.std.specs.Prelude.{◌≡◌, ◌<◌, ◌++◌, Some, None, MatchResult, IfOk, OnOk, OnErr};
+ghost use Rattle.std.specs.Prelude.{is_none};
 ghost use Rattle.grid_core.specs.Segment.{IsSegment};
 ghost use Rattle.snapround.specs.Machine.{start, drawn, refusal, after_insert, insert_reply};
 ghost use Rattle.snapround.specs.Machine.{after_commit, commit_reply, after_command, command_reply};
@@ -82,8 +83,8 @@ impl Machine {
         }
     }
 
-    /// Answers line `number`: does what it asks for, and appends its reply. Whether the line is bad.
-    /// After `Memory` the state is as before.
+    /// Answers line `number`: does what it asks for, and appends its reply. Whether the line is
+    /// bad. After `Memory` the state is as before.
     pub fn answer(&mut self, line: &[u8], number: usize, out: &mut Vec<u8>) -> Result<bool, Memory>
         ensures bad { IfOk result (λ bad. bad ≡ is_none (accepted self.old line.now)) }
         ensures state { OnOk result (self.new ≡ after self.old (accepted self.old line.now)) }

@@ -28,7 +28,8 @@ fn main(rt: HostRuntime) -> ExitCode {
     ExitCode::from(status)
 }
 
-/// The words after the program's name. A word that isn't UTF-8 is one that the program doesn't take.
+/// The words after the program's name. A word that isn't UTF-8 is one that the program doesn't
+/// take.
 fn words(rt: &(impl Env + AllocGlobal)) -> Result<Vec<String>, Status> {
     match env::args(rt) {
         Ok(args) => args.skip(1).collect(rt.alloc()).map_err(|_| Status::Memory),
