@@ -1,6 +1,6 @@
 -- The call `play`: what each status says of what was read and written.
 -- What speaks of bytes holds where the source tells its bytes, and the sink those that were written.
-use Rattle.std.specs.Prelude.{◌≡◌, ◌≢◌, ℕ, ◌+◌, ◌≤◌, ◌⊎◌, Bool, true, false, List, [], ◌∷◌, length, Option, IfSome, codes, bytes_eq}
+use Rattle.std.specs.Prelude.{◌≡◌, ◌≢◌, ℕ, ◌+◌, ◌<◌, ◌≤◌, ◌⊎◌, Bool, true, false, List, [], ◌∷◌, length, Option, IfSome, codes, bytes_eq}
 use Rattle.std.specs.Io.KnownBytes.{Appends, Consumes, IsAtEnd}
 use Rattle.io_ports.specs.Causes.{Rose}
 use Rattle.io_ports.specs.Transfers.{TakesAtMost, TakesExactly, WritesPrefix}
@@ -52,12 +52,17 @@ outside left read_faults written write_faults shut =
 pub record Played (status : ℕ) (old new : Outside) : Type 0 where
   -- no other status comes
   pub known : (status ≤ 6) × (status ≢ 2)
-  -- in every case at most one byte more than the greatest input was taken
+  -- in every case at most one byte more than the greatest input was taken, and of a longer input
+  -- nothing was answered
   pub most : TakesAtMost old.left new.left (most_bytes + 1)
-  -- 0 and 1: exactly what was left was taken, and it was no longer than the greatest input
+  pub unanswered : IfSome old.left (λ bytes. most_bytes < length bytes
+      → new.written ≡ old.written)
+  -- 0, 1 and 4: exactly what was left was taken, and it was no longer than the greatest input
   pub read : status ≤ 1 → IsAtEnd new.left
-  pub taken : IfSome old.left (λ bytes. status ≤ 1 → Consumes old.left new.left bytes)
-  pub within : IfSome old.left (λ bytes. status ≤ 1 → length bytes ≤ most_bytes)
+  pub taken : IfSome old.left (λ bytes. (status ≤ 1) ⊎ (status ≡ 4)
+      → Consumes old.left new.left bytes)
+  pub within : IfSome old.left (λ bytes. (status ≤ 1) ⊎ (status ≡ 4)
+      → length bytes ≤ most_bytes)
   -- 0 and 1: exactly the replies to all lines were written, and the sink is shut
   pub replied : IfSome old.left (λ bytes. status ≤ 1
       → Appends old.written new.written (output bytes))
