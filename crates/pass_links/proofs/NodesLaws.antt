@@ -1,10 +1,11 @@
--- The node at a key is made of the links and the pixel there. So a write of both at one key shows there
--- alone, and pixels behind the last slot don't show.
+-- The node at a key is made of the links and the pixel there. So a write at one key, of both or of
+-- the links alone, shows there alone, and pixels behind the last slot don't show.
 use Rattle.std.proofs.Common.{◌≡◌, ℕ, zero, suc, pos, ◌-◌, ◌<◌, ◌≤◌, List, [], ◌∷◌, ◌++◌, length, get_or, set, take, Option, None, Some, IsSome, refl, sym, ap, subst, ◌∙◌, true≢false, arith}
 use Rattle.std.proofs.lemmas.List.{get_or-set_same, get_or-set_other, set-get_or, take_all, take_at}
 use Rattle.grid_core.specs.declared.point.Point.{Point}
 use Rattle.slab.specs.Slab.{Slab, Updates, get, slab_len}
 use Rattle.pass_links.specs.declared.nodes.Links.{Links}
+use Rattle.pass_links.specs.Node.{pixel_of}
 use Rattle.pass_links.specs.Nodes.{Slots, stored_at, Changes, node_with, node_of, nodes_of, HasPixels}
 
 -- the node at a key is made of the links and the pixel there
@@ -50,6 +51,23 @@ module _ (links : Slab Links) (pixels : List Point) (seen : Slots) (beside : Has
             ∙ ap (λ p. node_of (get links other, p)) (ap (λ ps. get_or ps other pixel) written ∙ get_or-set_other pixels key other pixel pixel apart)
             ∙ sym (stored_seen other pixel);
       }
+
+  -- the pixel of a node is the one beside its links
+  pixel_seen : (key : ℕ) (p : Point) → pixel_of (stored_at seen.slots key) ≡ Some p → get_or pixels key p ≡ p
+  pixel_seen key p there = by_slot (get links key) refl
+    where
+      by_slot : (o : Option Links) → get links key ≡ o → get_or pixels key p ≡ p
+      by_slot None none = cc (there, ap pixel_of (none_seen key none))
+      by_slot (Some l) found =
+          let here : pixel_of (stored_at seen.slots key) ≡ Some (get_or pixels key p) = ap pixel_of (stored_seen key p ∙ ap (λ o. node_of (o, get_or pixels key p)) found) in
+          cc (there, here)
+
+  -- links that are written beside the pixel that stays show at that key alone
+  pub links_seen : (new : Slab Links) (key : ℕ) (l : Links) (p : Point)
+      → Updates links new key (Some l) → pixel_of (stored_at seen.slots key) ≡ Some p → key < length pixels → length new.slots ≤ length pixels
+      → Changes seen.slots (nodes_of new.slots pixels) key (Some (node_with p l))
+  links_seen new key l p updates there within fits =
+      changes_seen new pixels key (Some l) p updates (sym (ap (set pixels key) (sym (pixel_seen key p there)) ∙ set-get_or pixels key p)) within fits
 
   -- links that go leave no node, whatever pixel stays
   pub goes_seen : (new : Slab Links) (key : ℕ) → Updates links new key None → key < length pixels → length new.slots ≤ length pixels → Changes seen.slots (nodes_of new.slots pixels) key None

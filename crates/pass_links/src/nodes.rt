@@ -2,6 +2,7 @@
 ghost use Rattle.std.specs.Prelude.{◌≡◌, ◌+◌, ◌<◌, ◌≤◌, [], take, length, None, Some, IsSome, OnOk, IfOk};
 ghost use Rattle.slab.specs.Slab.{slab_len};
 ghost use Rattle.pass_links.specs.Chain.{end};
+ghost use Rattle.pass_links.specs.Node.{pixel_at};
 ghost use Rattle.pass_links.specs.Nodes.{stored_at, Changes, links_of, node_with};
 
 #[cfg(test)]
@@ -178,15 +179,15 @@ impl Nodes {
         key as u32
     }
 
-    /// Puts the node in place of the one at `key`.
+    /// Puts these links in place of those at `key`; the pixel stays.
     pub(crate) fn set(&mut self, key: u32, node: Node)
-        requires { IsSome (stored_at self.old.slots key) }
+        requires stored { IsSome (stored_at self.old.slots key) }
+        requires same_pixel { pixel_at self.old.slots key ≡ Some node.pixel }
         ensures changes { Changes self.old.slots self.new.slots key (Some node) }
         ensures key { key < end }
         ensures room { self.new.room ≡ self.old.room }
     {
         self.links[key as usize] = Links::of(&node);
-        self.pixels[key as usize] = node.pixel;
     }
 
     /// Takes out the node at `key`.

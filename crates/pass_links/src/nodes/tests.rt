@@ -31,7 +31,7 @@ fn numbers(node: Node) -> (u32, i64) {
 fn random_calls_as_in_a_plain_map(rt: HostRuntime) -> Result<(), Fail> {
     let name = Name::new(1, 1).ok_or("1.1 is a name")?;
     let mut nodes = Nodes::new(rt.alloc());
-    let mut plain: BTreeMap<u32, u32> = BTreeMap::new(rt.alloc());
+    let mut plain: BTreeMap<u32, (u32, i64)> = BTreeMap::new(rt.alloc());
     let mut drawn: u32 = 1;
     for _ in 0..2_000 {
         drawn = drawn.wrapping_mul(1_664_525).wrapping_add(1_013_904_223);
@@ -45,24 +45,30 @@ fn random_calls_as_in_a_plain_map(rt: HostRuntime) -> Result<(), Fail> {
                 }
             }
             4 | 5 => {
-                if nodes.get(key).is_some() {
-                    nodes.set(key, node_of(name, drawn));
-                    plain.insert(key, drawn)?;
+                if let Some(node) = nodes.get(key) {
+                    let pixel = node.pixel;
+                    nodes.set(
+                        key,
+                        Node {
+                            pixel,
+                            ..node_of(name, drawn)
+                        },
+                    );
+                    plain.insert(key, (drawn, pixel.x))?;
                 }
             }
             _ => {
                 if plain.len() < KEPT {
                     nodes.reserve(1)?;
                     let key = nodes.insert(node_of(name, drawn));
-                    assert!(rt; plain.insert(key, drawn)?.is_none());
+                    assert!(rt; plain.insert(key, (drawn, drawn as i64))?.is_none());
                     // The keys of nodes that were removed are given out again.
                     assert!(rt; (key as usize) < KEPT);
                 }
             }
         }
         for key in 0..32 {
-            let wanted = plain.get(&key).map(|drawn| (*drawn, *drawn as i64));
-            assert_eq!(rt; nodes.get(key).map(numbers), wanted);
+            assert_eq!(rt; nodes.get(key).map(numbers), plain.get(&key).copied());
         }
     }
     Ok(())

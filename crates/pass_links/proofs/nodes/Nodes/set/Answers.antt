@@ -1,18 +1,18 @@
-use Rattle.std.proofs.Common.{Some, arith, refl, subst}
+use Rattle.std.proofs.Common.{Some, arith, subst}
 use Rattle.std.proofs.lemmas.List.{length-set}
 use Rattle.slab.specs.Slab.{Updates, with_value}
 use Rattle.slab.proofs.SlabLemmas.{ContainsKey-within, Updates-with_value}
-use Rattle.pass_links.proofs.NodesLaws.{has_links, changes_seen}
+use Rattle.pass_links.proofs.NodesLaws.{has_links, links_seen}
 use Rattle.pass_links.proofs.nodes.Nodes.set.Goals as goal
 
 pub index_mut-requires : goal.index_mut-requires
-index_mut-requires c = has_links _ _ _ c.self.invariant c.self.view_is c.args.key c.requires
+index_mut-requires c = has_links _ _ _ c.self.invariant c.self.view_is c.args.key c.requires.stored
 
 pub returns-clause-changes : goal.returns-clause-changes
 returns-clause-changes c =
     let links = c.self.inside.links in
-    let stands = has_links _ _ _ c.self.invariant c.self.view_is c.args.key c.requires in
+    let stands = has_links _ _ _ c.self.invariant c.self.view_is c.args.key c.requires.stored in
     let within = ContainsKey-within links c.args.key stands in
-    changes_seen _ _ _ c.self.invariant c.self.view_is (with_value links c.args.key c.of.result) _ c.args.key _ c.args.node.pixel
+    links_seen _ _ _ c.self.invariant c.self.view_is (with_value links c.args.key c.of.result) c.args.key _ c.args.node.pixel
     (subst (λ l. Updates links (with_value links c.args.key c.of.result) c.args.key (Some l)) c.of.ensures (Updates-with_value links c.args.key c.of.result stands))
-    refl (omega (arith, within, c.self.invariant.slot_count)) (rw (length-set, length-set) c.self.invariant.slot_count)
+    c.requires.same_pixel (omega (arith, within, c.self.invariant.slot_count)) (rw length-set c.self.invariant.slot_count)
