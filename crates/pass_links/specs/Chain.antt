@@ -3,7 +3,7 @@
 use Rattle.std.specs.Prelude.{◌≡◌, ℕ, zero, suc, ◌<◌, ◌==◌, Bool, false, cond, List, [], ◌∷◌, Option, None, Some, filter_map}
 use Rattle.std.specs.List.{list_any}
 
--- the key that no node has: what stands behind a list's last node
+-- the key that no node has: what stands behind a list's last node and before its first
 abbrev pub end : ℕ
 end = 4294967295
 

@@ -1,5 +1,6 @@
--- Where lists begin: for each segment or pixel that has one, the key of its list's first node. Heads
--- rise by the segment or pixel that they are of.
+-- Where lists begin: for each segment or pixel that has one, the key of its list's first node. A list
+-- that is empty may have a head too, whose first key is then the end. Heads rise by the segment or
+-- pixel that they are of.
 use Rattle.std.specs.Prelude.{◌≡◌, ℕ, cond, List, [], ◌∷◌, map, length, Result, MatchResult}
 use Rattle.std.specs.declared.cmp.Ordering.{Ordering}
 use Rattle.std.specs.Ordering.{eq_by_cmp}

@@ -34,7 +34,8 @@
 //! empty, moves the heads behind its own.
 //!
 //! A node takes 40 bytes: 24 in the slab, its name, its four links and the slab's tag, and 16 beside
-//! for its pixel. The head of a segment takes 8, that of a pixel 24. A copy is four blocks of memory.
+//! for its pixel. The head of a segment takes 8, that of a pixel 24. A copy takes four blocks of
+//! memory; with room for more, the slab's block is copied and then grown.
 
 #![tactic(auto)]
 

@@ -18,7 +18,7 @@ ghost use Rattle.pass_links.specs.Filing.{AreFiled, AreLonger};
 use crate::heads::{Head, set_first};
 use crate::node::{Node, set_across, set_along, set_back_across, set_back_along};
 use crate::nodes::Nodes;
-use crate::seek::{Before, Seek, before_node, seek_across};
+use crate::seek::{Before, Seek, before_by_link, seek_across};
 use grid_core::{Name, Point};
 
 /// Lets `next` come behind a node of the segment's list, or first in it. The head of a list that
@@ -153,7 +153,7 @@ pub(crate) fn take_along(nodes: &mut Nodes, segments: &mut Vec<Head<Name>>, key:
 {
     let node = nodes.value(key);
     nodes.remove(key);
-    let before = before_node(segments, node.name, node.previous_of_segment);
+    let before = before_by_link(segments, node.name, node.previous_of_segment);
     point_along(nodes, segments, node.name, before, node.next_of_segment);
     set_back_along(nodes, node.next_of_segment, node.previous_of_segment);
     node
@@ -179,7 +179,7 @@ pub(crate) fn take_across(nodes: &mut Nodes, pixels: &mut Vec<Head<Point>>, key:
 {
     let node = nodes.value(key);
     nodes.remove(key);
-    let before = before_node(pixels, node.pixel, node.previous_of_pixel);
+    let before = before_by_link(pixels, node.pixel, node.previous_of_pixel);
     point_across(nodes, pixels, node.pixel, before, node.next_of_pixel);
     set_back_across(nodes, node.next_of_pixel, node.previous_of_pixel);
     node

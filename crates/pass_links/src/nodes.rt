@@ -14,7 +14,7 @@ use slab::Slab;
 use std::alloc::Global;
 use std::marker::Model;
 
-/// No key: what stands for one where a list ends.
+/// No key: what stands for one where a list ends, and before it begins.
 pub(crate) const END: u32 = u32::MAX;
 
 /// What stands beside a vacant key.
@@ -95,7 +95,7 @@ impl Model for Nodes {
 }
 
 /// The same links under the same keys.
-fn copied(links: &Slab<Links>) -> Result<Slab<Links>, Memory>
+fn copied_links(links: &Slab<Links>) -> Result<Slab<Links>, Memory>
     ensures { IfOk result (λ copy. copy.slots ≡ links.now.slots) }
 {
     Ok(links.clone()?)
@@ -116,7 +116,7 @@ fn key_count(links: &Slab<Links>) -> Result<usize, Memory>
 
 /// A copy of the pixels for this many keys: cut off where there are more, and filled up where there
 /// are fewer.
-fn copied_for(pixels: &Vec<Point>, count: usize) -> Result<Vec<Point>, Memory>
+fn copied_pixels(pixels: &Vec<Point>, count: usize) -> Result<Vec<Point>, Memory>
     ensures same { IfOk result (λ copy.
         take (length pixels.now.items) copy.items ≡ take count pixels.now.items) }
     ensures len { IfOk result (λ copy. length copy.items ≡ count) }
@@ -211,7 +211,7 @@ impl Nodes {
             return Ok(());
         }
         // A copy grows: a slab that has too many keys could not be cut back.
-        let mut links = copied(&self.links)?;
+        let mut links = copied_links(&self.links)?;
         links.reserve(more)?;
         let keys = key_count(&links)?;
         self.pixels.resize(keys, NO_PIXEL)?;
@@ -224,10 +224,10 @@ impl Nodes {
         ensures slots { IfOk result (λ s. s.slots ≡ self.now.slots) }
         ensures room { IfOk result (λ s. more ≤ s.room) }
     {
-        let mut links = copied(&self.links)?;
+        let mut links = copied_links(&self.links)?;
         links.reserve_exact(more)?;
         let keys = key_count(&links)?;
-        let pixels = copied_for(&self.pixels, keys)?;
+        let pixels = copied_pixels(&self.pixels, keys)?;
         Ok(Nodes { links, pixels })
     }
 }

@@ -73,8 +73,8 @@ impl Passes {
     }
 
     /// Makes room for `more` passes, whatever their names and pixels.
-    /// The lists stay, after want of memory too. `Memory` also where more than 4,294,967,295 passes
-    /// would stand in the lists at once.
+    /// The lists stay, after want of memory too. `Memory` also where it would make room for more than
+    /// 4,294,967,295 passes; room grows by doubling.
     pub fn reserve(&mut self, more: usize) -> Result<(), Memory>
         ensures segments { self.new.segments ≡ self.old.segments }
         ensures pixels { self.new.pixels ≡ self.old.pixels }
@@ -243,8 +243,8 @@ impl Passes {
         self.copy_with_room(0)
     }
 
-    /// The same lists, with room for `more` passes. `Memory` also where more than 4,294,967,295 passes
-    /// would stand in the lists at once.
+    /// The same lists, with room for `more` passes. `Memory` also where it would make room for more
+    /// than 4,294,967,295 passes.
     pub fn copy_with_room(&self, more: usize) -> Result<Passes, Memory>
         ensures segments { IfOk result (λ p. p.segments ≡ self.now.segments) }
         ensures pixels { IfOk result (λ p. p.pixels ≡ self.now.pixels) }

@@ -47,7 +47,7 @@ pub(crate) struct Seek {
 }
 
 /// What comes before a node with this link back, in the list of this segment or pixel.
-pub(crate) fn before_node<K: Owner>(heads: &[Head<K>], of: K, previous: u32) -> Before
+pub(crate) fn before_by_link<K: Owner>(heads: &[Head<K>], of: K, previous: u32) -> Before
     requires { Rise K.cmp heads.now }
     ensures node { node_before result ≡ key_of previous }
     ensures head { IsHeadBefore K.cmp heads.now of result }
