@@ -46,21 +46,6 @@ module _ {V : Type 0} (same : V → V → Bool) (decides : (a b : V) → Decides
       by rest None = rest
       by rest (Some b) = or_right (same a b) (list_any (same a) (listed v ks)) rest
 
-  -- a value is that of a key of the list
-  pub listed_key : (v : ℕ → Option V) (a : V) (ks : List ℕ) → list_any (same a) (listed v ks) ≡ true → (k : ℕ) × (has_key ks k ≡ true) × (v k ≡ Some a)
-  listed_key v a [] h = absurd (true≢false (sym h))
-  listed_key v a (j ∷ ks) h = by (λ t. listed_key v a ks t) (v j) refl h
-    where
-      later : (k : ℕ) × (has_key ks k ≡ true) × (v k ≡ Some a) → (k : ℕ) × (has_key (j ∷ ks) k ≡ true) × (v k ≡ Some a)
-      later found = (found.0, or_right (found.0 == j) (has_key ks found.0) found.1, found.2)
-
-      by : (list_any (same a) (listed v ks) ≡ true → (k : ℕ) × (has_key ks k ≡ true) × (v k ≡ Some a))
-          → (o : Option V) → v j ≡ o → list_any (same a) (cons_option o (listed v ks)) ≡ true → (k : ℕ) × (has_key (j ∷ ks) k ≡ true) × (v k ≡ Some a)
-      by rest None e t = later (rest t)
-      by rest (Some b) e t =
-          ⊎_elim (λ u. (j, or_left (j == j) (has_key ks j) (key_itself j), e ∙ ap Some (sym ((decides a b).0 u)))) (λ u. later (rest u))
-          (or_cases (same a b) (list_any (same a) (listed v ks)) t)
-
   -- where a value stands once and comes later, the first one is another
   other_first : (a b : V) (bs : List V) → count_by (same a) (b ∷ bs) ≤ 1 → list_any (same a) bs ≡ true → same a b ≡ false
   other_first a b bs once later =

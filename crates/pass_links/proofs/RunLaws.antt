@@ -99,12 +99,6 @@ module _ (name : Label) (after : Option Point) (run : List Point) (old : PassLis
     fresh = subst (AreFresh run) (was name) fresh;
   }
 
-  -- the first of those that are left may be linked
-  pub run_fresh : {i : ℕ} {slots : List (Option Node)} {start : Label → ℕ} {start' : Point → ℕ} {before : Option ℕ} {at : ℕ} (pixel : Point)
-      → LinksRun name after run old i slots start start' before at → drop i run ≡ pixel ∷ drop (i + 1) run
-      → has_pixel (pixels_from slots (start name)) pixel ≡ false
-  run_fresh {slots = slots} {start = start} pixel h e = (subst (λ ps. AreFresh ps (pixels_from slots (start name))) e h.fresh).0
-
   -- one more
   pub run_more : {i : ℕ} {slots slots' : List (Option Node)} {start next : Label → ℕ} {start' next' : Point → ℕ} {before : Option ℕ} {at : ℕ} (pixel : Point) (key : ℕ)
       → LinksRun name after run old i slots start start' before at → drop i run ≡ pixel ∷ drop (i + 1) run → take (i + 1) run ≡ take i run ++ pixel ∷ []

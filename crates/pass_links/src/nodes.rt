@@ -1,6 +1,5 @@
 //! Nodes under 32-bit keys: their links in a slab, and their pixels beside.
 ghost use Rattle.std.specs.Prelude.{◌≡◌, ◌+◌, ◌<◌, ◌≤◌, [], take, length, None, Some, IsSome, OnOk, IfOk};
-ghost use Rattle.slab.specs.Slab.{slab_len};
 ghost use Rattle.pass_links.specs.Chain.{end};
 ghost use Rattle.pass_links.specs.Node.{pixel_at};
 ghost use Rattle.pass_links.specs.Nodes.{stored_at, Changes, links_of, node_with};

@@ -32,7 +32,7 @@ pub struct Passes {
 }
 
 impl Model for Passes {
-    ghost use Rattle.std.specs.Prelude.{ℕ, ◌-◌, min};
+    ghost use Rattle.std.specs.Prelude.{◌-◌, min};
     ghost use Rattle.std.specs.Vec.{vec_len, vec_capacity};
     ghost use Rattle.grid_core.specs.Name.{label_cmp};
     ghost use Rattle.grid_core.specs.Vector.{point_cmp};

@@ -1,5 +1,5 @@
 //! Where a pass stands in a list, or would stand.
-ghost use Rattle.std.specs.Prelude.{◌≡◌, IsTrue, IfSome, Some};
+ghost use Rattle.std.specs.Prelude.{◌≡◌, IsTrue, IfSome};
 ghost use Rattle.std.specs.List.Sorted.{IsStrictlySortedBy};
 ghost use Rattle.grid_core.specs.Name.{label_cmp, label_eq};
 ghost use Rattle.grid_core.specs.Vector.{point_cmp, point_eq};

@@ -12,7 +12,6 @@ use Rattle.pass_links.specs.Seek.{IsHeadBefore, node_before}
 use Rattle.pass_links.proofs.SeenLaws.{seen, seen_pixels, seen_names}
 use Rattle.pass_links.proofs.RunLaws.{run_begun, run_more, run_linked}
 use Rattle.pass_links.proofs.passes.Passes.link_run.Goals as goal
-use Rattle.pass_links.proofs.passes.Passes.link_run.Goals.{After-seek_behind-place}
 
 pub seek_behind-place-requires-clause-behind : goal.seek_behind-place-requires-clause-behind
 seek_behind-place-requires-clause-behind c =
