@@ -21,16 +21,6 @@ pub record Changes (old new : List (Option Node)) (key : ℕ) (slot : Option Nod
   pub changed : stored_at new key ≡ slot
   pub others : (other : ℕ) → other ≢ key → stored_at new other ≡ stored_at old other
 
--- what of a node lies in the slab: its segment, and its links
-abbrev pub links_of : Node → Links
-links_of node = record {
-  name = node.name;
-  next_of_segment = node.next_of_segment;
-  previous_of_segment = node.previous_of_segment;
-  next_of_pixel = node.next_of_pixel;
-  previous_of_pixel = node.previous_of_pixel;
-}
-
 -- the node with this pixel and these links
 abbrev pub node_with : Point → Links → Node
 node_with pixel links = record {

@@ -2,7 +2,7 @@
 ghost use Rattle.std.specs.Prelude.{◌≡◌, ◌+◌, ◌<◌, ◌≤◌, [], take, length, None, Some, IsSome, OnOk, IfOk};
 ghost use Rattle.pass_links.specs.Chain.{end};
 ghost use Rattle.pass_links.specs.Node.{pixel_at};
-ghost use Rattle.pass_links.specs.Nodes.{stored_at, Changes, links_of, node_with};
+ghost use Rattle.pass_links.specs.Nodes.{stored_at, Changes, node_with};
 
 #[cfg(test)]
 mod tests;
@@ -36,7 +36,7 @@ impl Links {
     /// Those of this node.
     #[inline]
     fn of(node: &Node) -> Links
-        ensures { result ≡ links_of node.now }
+        ensures { node_with node.now.pixel result ≡ node.now }
     {
         Links {
             name: node.name,

@@ -1,5 +1,5 @@
-use Rattle.std.proofs.Common.{Some, refl, arith, subst, length-set}
-use Rattle.slab.specs.Slab.{Updates}
+use Rattle.std.proofs.Common.{Some, refl, ap, arith, subst, length-set}
+use Rattle.pass_links.specs.Nodes.{Changes}
 use Rattle.pass_links.proofs.NodesLaws.{none_seen, changes_seen}
 use Rattle.pass_links.proofs.nodes.Nodes.insert.Goals as goal
 
@@ -8,6 +8,6 @@ returns-clause-was_vacant c = none_seen _ _ _ c.self.invariant c.self.view_is c.
 
 pub returns-clause-changes : goal.returns-clause-changes
 returns-clause-changes c =
-    changes_seen _ _ _ c.self.invariant c.self.view_is c.insert_reserved-key.new.self _ c.insert_reserved-key.result _ c.args.node.pixel
-    (subst (λ l. Updates c.self.inside.links c.insert_reserved-key.new.self c.insert_reserved-key.result (Some l)) c.of.ensures c.insert_reserved-key.ensures.updates)
-    refl (omega arith) (rw length-set (omega arith))
+    subst (Changes c.args.self.now.slots _ c.insert_reserved-key.result) (ap Some c.of.ensures)
+    (changes_seen _ _ _ c.self.invariant c.self.view_is c.insert_reserved-key.new.self _ c.insert_reserved-key.result (Some c.of.result) c.args.node.pixel
+    c.insert_reserved-key.ensures.updates refl (omega arith) (rw length-set (omega arith)))
