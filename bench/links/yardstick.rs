@@ -1,6 +1,6 @@
 //! The yardsticks of `bench_links`: the same work in Rust on four structures. `same` is the proved
-//! one's own: nodes in two lists at once, in a store of plain places. `small` has nodes of four 32-bit indices, which
-//! name the places of the heads, in a plain vector. `flat` has the passes in two vectors in order, by
+//! one's own: nodes in two lists at once, linked both ways, in a slab, and their pixels beside. `small` has nodes of
+//! four 32-bit indices, which name the places of the heads, in a plain vector. `flat` has the passes in two vectors in order, by
 //! segment and by pixel. `plain` has a vector of pixels for each segment, in a map.
 use std::collections::BTreeMap;
 use std::env;
@@ -21,6 +21,13 @@ struct Point {
 trait Lists: Clone {
     fn open() -> Self;
     fn reserve(&mut self, more: usize);
+
+    fn copy_with_room(&self, more: usize) -> Self {
+        let mut copy = self.clone();
+        copy.reserve(more);
+        copy
+    }
+
     fn has(&self, name: Name, pixel: Point) -> bool;
     fn link_between(&mut self, name: Name, pixel: Point, after: Option<Point>);
     fn unlink_pixel(&mut self, pixel: Point);
@@ -29,145 +36,213 @@ trait Lists: Clone {
     fn across(&self, pixel: Point, visit: impl FnMut(Name));
 }
 
-// ---- nodes in two lists by key, in a store of plain places
+// ---- nodes in two lists by key, in a slab, and their pixels beside
 
 const NONE: u32 = u32::MAX;
 
 #[derive(Clone, Copy)]
-struct Pass {
+struct Links {
     name: Name,
-    pixel: Point,
-    along: u32,
-    across: u32,
-}
-
-#[derive(Clone, Copy)]
-enum Place {
-    Vacant(u32),
-    Taken(Pass),
+    next_of_segment: u32,
+    previous_of_segment: u32,
+    next_of_pixel: u32,
+    previous_of_pixel: u32,
 }
 
 #[derive(Clone)]
-struct Store {
-    places: Vec<Place>,
-    vacant: u32,
-    free: usize,
+enum Entry<T> {
+    Vacant(usize),
+    Occupied(T),
 }
 
-impl Store {
-    fn get(&self, key: u32) -> Option<&Pass> {
-        match self.places.get(key as usize) {
-            Some(Place::Taken(pass)) => Some(pass),
+/// As the crate `slab` has it.
+#[derive(Clone)]
+struct Slab<T> {
+    entries: Vec<Entry<T>>,
+    len: usize,
+    next: usize,
+}
+
+impl<T> Slab<T> {
+    fn get(&self, key: u32) -> Option<&T> {
+        match self.entries.get(key as usize) {
+            Some(Entry::Occupied(value)) => Some(value),
             _ => None,
         }
     }
 
-    fn get_mut(&mut self, key: u32) -> &mut Pass {
-        match &mut self.places[key as usize] {
-            Place::Taken(pass) => pass,
-            Place::Vacant(_) => unreachable!(),
+    fn get_mut(&mut self, key: u32) -> Option<&mut T> {
+        match self.entries.get_mut(key as usize) {
+            Some(Entry::Occupied(value)) => Some(value),
+            _ => None,
         }
     }
 
-    fn insert(&mut self, pass: Pass) -> u32 {
-        let key = self.vacant;
-        if key == NONE {
-            self.places.push(Place::Taken(pass));
-            return self.places.len() as u32 - 1;
+    fn insert(&mut self, value: T) -> u32 {
+        let key = self.next;
+        self.len += 1;
+        if key == self.entries.len() {
+            self.entries.push(Entry::Occupied(value));
+            self.next = key + 1;
+        } else if let Entry::Vacant(next) = std::mem::replace(&mut self.entries[key], Entry::Occupied(value)) {
+            self.next = next;
         }
-        if let Place::Vacant(next) = std::mem::replace(&mut self.places[key as usize], Place::Taken(pass)) {
-            self.vacant = next;
-            self.free -= 1;
-        }
-        key
+        key as u32
     }
 
-    fn remove(&mut self, key: u32) {
-        self.places[key as usize] = Place::Vacant(self.vacant);
-        self.vacant = key;
-        self.free += 1;
+    fn remove(&mut self, key: u32) -> Option<T> {
+        let entry = self.entries.get_mut(key as usize)?;
+        match std::mem::replace(entry, Entry::Vacant(self.next)) {
+            Entry::Occupied(value) => {
+                self.len -= 1;
+                self.next = key as usize;
+                Some(value)
+            }
+            vacant => {
+                *entry = vacant;
+                None
+            }
+        }
+    }
+}
+
+trait Owner: Copy + PartialEq {
+    fn is_before(&self, other: &Self) -> bool;
+}
+
+impl Owner for Name {
+    fn is_before(&self, other: &Name) -> bool {
+        (self.editor < other.editor) | ((self.editor == other.editor) & (self.serial < other.serial))
+    }
+}
+
+impl Owner for Point {
+    fn is_before(&self, other: &Point) -> bool {
+        (self.x < other.x) | ((self.x == other.x) & (self.y < other.y))
+    }
+}
+
+#[derive(Clone, Copy)]
+struct Head<K> {
+    of: K,
+    first: u32,
+}
+
+/// Where a head stands or would stand, and the first key of its list.
+fn find<K: Owner>(heads: &[Head<K>], of: K) -> (Result<usize, usize>, u32) {
+    let at = heads.partition_point(|head| head.of.is_before(&of));
+    match heads.get(at) {
+        Some(head) if head.of == of => (Ok(at), head.first),
+        _ => (Err(at), NONE),
+    }
+}
+
+/// Sets where a list begins. The head of a list that has become empty goes.
+fn set_first<K>(heads: &mut Vec<Head<K>>, of: K, place: Result<usize, usize>, first: u32) {
+    match place {
+        Ok(at) if first == NONE => {
+            heads.remove(at);
+        }
+        Ok(at) => heads[at].first = first,
+        Err(at) => heads.insert(at, Head { of, first }),
+    }
+}
+
+/// A copy of the heads with room for more.
+fn with_room<K: Copy>(heads: &[Head<K>], more: usize) -> Vec<Head<K>> {
+    let mut copy = Vec::with_capacity(heads.len() + more);
+    copy.extend_from_slice(heads);
+    copy
+}
+
+/// What comes before a place in a list: its head, with the head's place, or a node.
+#[derive(Clone, Copy)]
+enum Before {
+    Head(Result<usize, usize>),
+    Node(u32),
+}
+
+impl Before {
+    fn link(self) -> u32 {
+        match self {
+            Before::Head(_) => NONE,
+            Before::Node(key) => key,
+        }
+    }
+
+    fn by_link<K: Owner>(heads: &[Head<K>], of: K, previous: u32) -> Before {
+        if previous == NONE { Before::Head(find(heads, of).0) } else { Before::Node(previous) }
     }
 }
 
 #[derive(Clone)]
 struct Same {
-    nodes: Store,
-    segments: Vec<(Name, u32)>,
-    pixels: Vec<(Point, u32)>,
-}
-
-fn first_of<K: Ord + Copy>(heads: &[(K, u32)], of: K) -> u32 {
-    match heads.binary_search_by_key(&of, |head| head.0) {
-        Ok(i) => heads[i].1,
-        Err(_) => NONE,
-    }
-}
-
-/// Sets where a list begins. The head of a list that has become empty goes.
-fn set_first<K: Ord + Copy>(heads: &mut Vec<(K, u32)>, of: K, first: u32) {
-    match heads.binary_search_by_key(&of, |head| head.0) {
-        Ok(i) if first == NONE => {
-            heads.remove(i);
-        }
-        Ok(i) => heads[i].1 = first,
-        Err(i) => heads.insert(i, (of, first)),
-    }
+    nodes: Slab<Links>,
+    points: Vec<Point>,
+    segments: Vec<Head<Name>>,
+    pixels: Vec<Head<Point>>,
 }
 
 impl Same {
-    /// The first node of a pixel's list whose name isn't less, and the node before it.
-    fn seek_across(&self, pixel: Point, name: Name) -> (u32, u32) {
-        let (mut before, mut at) = (NONE, first_of(&self.pixels, pixel));
+    /// The first node of a pixel's list whose name isn't less, and what comes before it.
+    fn seek_across(&self, pixel: Point, name: Name) -> (Before, u32) {
+        let (place, first) = find(&self.pixels, pixel);
+        let (mut before, mut at) = (Before::Head(place), first);
         while let Some(pass) = self.nodes.get(at).filter(|pass| pass.name < name) {
-            (before, at) = (at, pass.across);
+            (before, at) = (Before::Node(at), pass.next_of_pixel);
         }
         (before, at)
     }
 
-    /// The node of a segment's list through a pixel, and the node before it.
-    fn seek_along(&self, name: Name, pixel: Point) -> (u32, u32) {
-        let (mut before, mut at) = (NONE, first_of(&self.segments, name));
-        while let Some(pass) = self.nodes.get(at).filter(|pass| pass.pixel != pixel) {
-            (before, at) = (at, pass.along);
-        }
-        (before, at)
-    }
-
-    fn set_along(&mut self, before: u32, name: Name, next: u32) {
-        if before == NONE {
-            set_first(&mut self.segments, name, next);
-        } else {
-            self.nodes.get_mut(before).along = next;
+    fn point_along(&mut self, name: Name, before: Before, next: u32) {
+        match before {
+            Before::Head(place) => set_first(&mut self.segments, name, place, next),
+            Before::Node(key) => self.nodes.get_mut(key).unwrap().next_of_segment = next,
         }
     }
 
-    fn set_across(&mut self, before: u32, pixel: Point, next: u32) {
-        if before == NONE {
-            set_first(&mut self.pixels, pixel, next);
-        } else {
-            self.nodes.get_mut(before).across = next;
+    fn point_across(&mut self, pixel: Point, before: Before, next: u32) {
+        match before {
+            Before::Head(place) => set_first(&mut self.pixels, pixel, place, next),
+            Before::Node(key) => self.nodes.get_mut(key).unwrap().next_of_pixel = next,
         }
     }
 
-    fn unlink(&mut self, name: Name, pixel: Point) {
-        let (before_along, at) = self.seek_along(name, pixel);
-        let (before_across, _) = self.seek_across(pixel, name);
-        let Some(&Pass { along, across, .. }) = self.nodes.get(at) else { return };
-        self.set_along(before_along, name, along);
-        self.set_across(before_across, pixel, across);
-        self.nodes.remove(at);
+    fn set_back_along(&mut self, key: u32, previous: u32) {
+        if let Some(pass) = self.nodes.get_mut(key) {
+            pass.previous_of_segment = previous;
+        }
+    }
+
+    fn set_back_across(&mut self, key: u32, previous: u32) {
+        if let Some(pass) = self.nodes.get_mut(key) {
+            pass.previous_of_pixel = previous;
+        }
     }
 }
 
 impl Lists for Same {
     fn open() -> Same {
-        Same { nodes: Store { places: Vec::new(), vacant: NONE, free: 0 }, segments: Vec::new(), pixels: Vec::new() }
+        let nodes = Slab { entries: Vec::new(), len: 0, next: 0 };
+        Same { nodes, points: Vec::new(), segments: Vec::new(), pixels: Vec::new() }
     }
 
+    /// Where nodes are stored already the proved one grows a copy here; in Rust they grow where they are.
     fn reserve(&mut self, more: usize) {
-        self.nodes.places.reserve(more.saturating_sub(self.nodes.free));
+        self.nodes.entries.reserve(more.saturating_sub(self.nodes.entries.len() - self.nodes.len));
+        self.points.resize(self.nodes.entries.capacity(), Point { x: 0, y: 0 });
         self.segments.reserve(more);
         self.pixels.reserve(more);
+    }
+
+    fn copy_with_room(&self, more: usize) -> Same {
+        let mut nodes = self.nodes.clone();
+        nodes.entries.reserve_exact(more.saturating_sub(nodes.entries.len() - nodes.len));
+        let keys = nodes.entries.capacity();
+        let mut points = Vec::with_capacity(keys);
+        points.extend_from_slice(&self.points[..keys.min(self.points.len())]);
+        points.resize(keys, Point { x: 0, y: 0 });
+        Same { nodes, points, segments: with_room(&self.segments, more), pixels: with_room(&self.pixels, more) }
     }
 
     fn has(&self, name: Name, pixel: Point) -> bool {
@@ -176,42 +251,67 @@ impl Lists for Same {
     }
 
     fn link_between(&mut self, name: Name, pixel: Point, after: Option<Point>) {
-        let behind = after.map_or(NONE, |after| self.seek_across(after, name).1);
-        let along = match self.nodes.get(behind) {
-            Some(pass) => pass.along,
-            None => first_of(&self.segments, name),
+        let (behind, along) = match after {
+            None => {
+                let (place, first) = find(&self.segments, name);
+                (Before::Head(place), first)
+            }
+            Some(after) => {
+                let at = self.seek_across(after, name).1;
+                (Before::Node(at), self.nodes.get(at).unwrap().next_of_segment)
+            }
         };
         let (before, across) = self.seek_across(pixel, name);
-        let new = self.nodes.insert(Pass { name, pixel, along, across });
-        self.set_along(behind, name, new);
-        self.set_across(before, pixel, new);
+        let new = self.nodes.insert(Links {
+            name,
+            next_of_segment: along,
+            previous_of_segment: behind.link(),
+            next_of_pixel: across,
+            previous_of_pixel: before.link(),
+        });
+        self.points[new as usize] = pixel;
+        self.point_along(name, behind, new);
+        self.set_back_along(along, new);
+        self.point_across(pixel, before, new);
+        self.set_back_across(across, new);
     }
 
     fn unlink_pixel(&mut self, pixel: Point) {
-        while let Some(pass) = self.nodes.get(first_of(&self.pixels, pixel)) {
-            self.unlink(pass.name, pixel);
+        let (Ok(head), mut at) = find(&self.pixels, pixel) else { return };
+        while let Some(pass) = self.nodes.remove(at) {
+            let before = Before::by_link(&self.segments, pass.name, pass.previous_of_segment);
+            self.point_along(pass.name, before, pass.next_of_segment);
+            self.set_back_along(pass.next_of_segment, pass.previous_of_segment);
+            at = pass.next_of_pixel;
         }
+        self.pixels.remove(head);
     }
 
     fn unlink_segment(&mut self, name: Name) {
-        while let Some(pass) = self.nodes.get(first_of(&self.segments, name)) {
-            self.unlink(name, pass.pixel);
+        let (Ok(head), mut at) = find(&self.segments, name) else { return };
+        while let Some(pass) = self.nodes.remove(at) {
+            let pixel = self.points[at as usize];
+            let before = Before::by_link(&self.pixels, pixel, pass.previous_of_pixel);
+            self.point_across(pixel, before, pass.next_of_pixel);
+            self.set_back_across(pass.next_of_pixel, pass.previous_of_pixel);
+            at = pass.next_of_segment;
         }
+        self.segments.remove(head);
     }
 
     fn along(&self, name: Name, mut visit: impl FnMut(Point)) {
-        let mut at = first_of(&self.segments, name);
+        let mut at = find(&self.segments, name).1;
         while let Some(pass) = self.nodes.get(at) {
-            visit(pass.pixel);
-            at = pass.along;
+            visit(self.points[at as usize]);
+            at = pass.next_of_segment;
         }
     }
 
     fn across(&self, pixel: Point, mut visit: impl FnMut(Name)) {
-        let mut at = first_of(&self.pixels, pixel);
+        let mut at = find(&self.pixels, pixel).1;
         while let Some(pass) = self.nodes.get(at) {
             visit(pass.name);
-            at = pass.across;
+            at = pass.next_of_pixel;
         }
     }
 }
@@ -513,23 +613,25 @@ fn pixel_of(pixel: u16) -> Point {
     Point { x: i64::from(pixel) / 16, y: i64::from(pixel) % 16 }
 }
 
-fn link_all<L: Lists>(lists: &mut L) -> u64 {
+fn link_segment<L: Lists>(lists: &mut L, segment: u16) -> u64 {
     let mut linked = 0;
-    for segment in 0..16 {
-        let mut after = None;
-        for pixel in 0..256 {
-            if (pixel + segment) % 4 == 0 {
-                let (name, at) = (name_of(segment), pixel_of(pixel));
-                if !lists.has(name, at) {
-                    let before = after.filter(|before| lists.has(name, *before));
-                    lists.link_between(name, at, before);
-                    after = Some(at);
-                    linked += 1;
-                }
+    let mut after = None;
+    for pixel in 0..256 {
+        if pixel % 4 == segment % 4 {
+            let (name, at) = (name_of(segment), pixel_of(pixel));
+            if !lists.has(name, at) {
+                let before = after.filter(|before| lists.has(name, *before));
+                lists.link_between(name, at, before);
+                after = Some(at);
+                linked += 1;
             }
         }
     }
     linked
+}
+
+fn link_all<L: Lists>(lists: &mut L) -> u64 {
+    (0..16).map(|segment| link_segment(lists, segment)).sum()
 }
 
 fn walk_all<L: Lists>(lists: &L, first: u64) -> u64 {
@@ -565,6 +667,11 @@ fn run<L: Lists>(work: &str, rounds: u32) -> u64 {
             "copy" => {
                 let copy = black_box(kept.clone());
                 copy.across(pixel_of(4), |name| total += u64::from(name.serial));
+            }
+            "change" => {
+                let mut changed = kept.copy_with_room(64);
+                total += link_segment(&mut changed, 16);
+                changed.across(pixel_of(4), |name| total += u64::from(name.serial));
             }
             _ => total += walk_all(black_box(&kept), total),
         }

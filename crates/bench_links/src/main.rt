@@ -1,6 +1,6 @@
 //! Links, copies and walks the passes of a tile with 16 segments and 256 pixels, to be timed from
 //! outside: it prints counts, and never times. Its first word is the number of rounds, its second
-//! the work: `link`, `copy` or `walk`.
+//! the work: `link`, `copy`, `change` or `walk`.
 #![tactic(auto)]
 
 use grid_core::{Memory, Name, Point};
@@ -17,6 +17,9 @@ const PIXELS: u16 = 256;
 /// The passes of the tile.
 const PASSES: usize = 1024;
 
+/// The passes of one segment.
+const PASSES_OF_SEGMENT: usize = 64;
+
 /// What is done in each round.
 #[derive(Clone, Copy)]
 enum Work {
@@ -24,6 +27,8 @@ enum Work {
     Link,
     /// A tile is copied, and one list of the copy is walked.
     Copy,
+    /// A tile is copied with room for the passes of a segment more, which is then linked.
+    Change,
     /// All lists of a tile are walked.
     Walk,
 }
@@ -39,6 +44,7 @@ fn work_of(word: Option<String>) -> Option<Work> {
     match word.as_str() {
         "link" => Some(Work::Link),
         "copy" => Some(Work::Copy),
+        "change" => Some(Work::Change),
         "walk" => Some(Work::Walk),
         _ => None,
     }
@@ -128,6 +134,16 @@ fn link_round(alloc: Global) -> Result<u64, Memory> {
     Ok(linked.wrapping_add(walk_all(&passes, linked)))
 }
 
+/// A copy of the tile gets a segment more. Gives the number of its passes, and a sum over one list.
+fn change_round(passes: &Passes) -> Result<u64, Memory> {
+    let mut changed = passes.copy_with_room(PASSES_OF_SEGMENT)?;
+    let mut linked: u64 = 0;
+    if let Some(name) = Name::new(1, SEGMENTS + 1) {
+        linked = link_segment(&mut changed, name, SEGMENTS);
+    }
+    Ok(linked.wrapping_add(walk_across(&changed, pixel_of(4))))
+}
+
 /// The sum over so many rounds of the work.
 fn run(alloc: Global, work: Work, rounds: u32) -> Result<u64, Memory> {
     let mut passes = Passes::open(alloc);
@@ -138,6 +154,7 @@ fn run(alloc: Global, work: Work, rounds: u32) -> Result<u64, Memory> {
         let part = match work {
             Work::Link => link_round(alloc)?,
             Work::Copy => walk_across(&passes.copy()?, pixel_of(4)),
+            Work::Change => change_round(&passes)?,
             // each walk begins where the sum so far says, so that none is left out as a repetition
             Work::Walk => walk_all(&passes, total),
         };
