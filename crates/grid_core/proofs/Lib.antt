@@ -14,3 +14,4 @@ pub mod RouteOrder
 pub mod Signed
 pub mod Sizes
 pub mod WorkedDrawings
+pub mod WorkedTiles

@@ -9,4 +9,5 @@ pub mod Meets
 pub mod Crossing
 pub mod RisingSet
 pub mod Rounding
+pub mod Tiles
 pub mod Laws

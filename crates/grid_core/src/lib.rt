@@ -16,6 +16,7 @@ mod point;
 mod profile;
 mod segment;
 mod side;
+mod tile;
 
 pub use arithmetic::{cross, dot, offset, sum, vector};
 pub use edge::Edge;
@@ -30,3 +31,4 @@ pub use point::{Point, Vertex};
 pub use profile::Profile;
 pub use segment::{EndFault, Ur};
 pub use side::{Side, side_of};
+pub use tile::{TileId, tile_box, tile_of};

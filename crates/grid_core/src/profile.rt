@@ -44,7 +44,7 @@ impl Profile {
         i64::from(self.bound)
     }
 
-    /// How many pixels a tile is wide and high: 1 to 2^30.
+    /// How many pixels a tile is wide and high: 1 to 65,536.
     pub fn side(&self) -> i64
         ensures value { result ≡ pos self.now.side }
         ensures kept { IsProfile self.now }
