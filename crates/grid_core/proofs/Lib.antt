@@ -13,5 +13,7 @@ pub mod RouteEnds
 pub mod RouteOrder
 pub mod Signed
 pub mod Sizes
+pub mod WorkedContours
 pub mod WorkedDrawings
+pub mod WorkedPlaces
 pub mod WorkedTiles

@@ -10,4 +10,7 @@ pub mod Crossing
 pub mod RisingSet
 pub mod Rounding
 pub mod Tiles
+pub mod Planar
+pub mod Contours
+pub mod Places
 pub mod Laws

@@ -12,6 +12,7 @@ mod laws;
 mod memory;
 mod name;
 mod pixel_box;
+mod place;
 mod point;
 mod profile;
 mod segment;
@@ -27,6 +28,7 @@ pub use laws::{
 pub use memory::Memory;
 pub use name::Name;
 pub use pixel_box::PixelBox;
+pub use place::{Cell, Place};
 pub use point::{Point, Vertex};
 pub use profile::Profile;
 pub use segment::{EndFault, Ur};
