@@ -7,16 +7,17 @@ use Rattle.std.specs.Prelude.{◌<ℤ◌, ◌⊎◌}
 use Rattle.std.specs.Cmp.{IsTotalOrder}
 use Rattle.std.specs.Ordering.{ordering_then, ordering_reverse, MatchOrdering}
 use Rattle.std.proofs.lemmas.Int.{ints}
-use Rattle.std.proofs.lemmas.Cmp.{int_ranked, int_cmp_total, nat_cmp_total, tied_itself, then_total, on_total}
+use Rattle.std.proofs.lemmas.Cmp.{int_ranked, tied_itself}
 use Rattle.std.proofs.lemmas.Map.Lookups.{CmpEqualImpliesEq, exact_unsigned}
 use Rattle.grid_core.specs.declared.point.Point.{Point}
 use Rattle.grid_core.specs.Vector.{point_cmp}
-use Rattle.grid_core.specs.Name.{Label, label_cmp}
-use Rattle.grid_core.specs.Edge.{EdgeEnds, edge_cmp}
+use Rattle.grid_core.specs.Name.{label_cmp}
+use Rattle.grid_core.specs.Edge.{edge_cmp}
+use Rattle.grid_core.specs.Orders.{points_in_order, names_in_order, edges_in_order}
 
 -- points are totally ordered
 pub point_total : IsTotalOrder point_cmp
-point_total = then_total (on_total (λ (s : Point). s.x) int_cmp_total) (on_total (λ (s : Point). s.y) int_cmp_total)
+point_total = points_in_order
 
 exact : (ox oy : Ordering) (a b : Point) → MatchOrdering ox (a.x <ℤ b.x) (a.x ≡ b.x) (b.x <ℤ a.x)
     → MatchOrdering oy (a.y <ℤ b.y) (a.y ≡ b.y) (b.y <ℤ a.y) → ordering_then ox oy ≡ Equal → a ≡ b
@@ -83,7 +84,7 @@ both_equal Greater l f g h = absurd (cc h)
 
 -- edges are totally ordered
 pub edge_total : IsTotalOrder edge_cmp
-edge_total = then_total (on_total (λ (e : EdgeEnds). e.a) point_total) (on_total (λ (e : EdgeEnds). e.b) point_total)
+edge_total = edges_in_order
 
 -- edges of equal order are one edge
 pub edge_exact : CmpEqualImpliesEq edge_cmp
@@ -93,8 +94,7 @@ edge_exact e f h =
 
 -- names are totally ordered
 pub label_total : IsTotalOrder label_cmp
-label_total = then_total (on_total (λ (n : Label). n.editor) nat_cmp_total)
-    (on_total (λ (n : Label). n.serial) nat_cmp_total)
+label_total = names_in_order
 
 -- names of equal order are one name
 pub label_exact : CmpEqualImpliesEq label_cmp

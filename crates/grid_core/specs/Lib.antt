@@ -4,6 +4,8 @@ pub mod Name
 pub mod Segment
 pub mod Side
 pub mod Edge
+pub mod Codes
+pub mod Orders
 pub mod LiveList
 pub mod Meets
 pub mod Crossing

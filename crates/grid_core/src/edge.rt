@@ -1,12 +1,17 @@
 //! Edges between grid points.
 
+ghost use Rattle.std.proofs.Common.{rules};
+ghost use Rattle.std.specs.Cmp.{po};
+ghost use Rattle.std.specs.Cmp.Rules.{comparing};
+ghost use Rattle.std.specs.Ordering.{as_partial_cmp};
+
 use crate::Point;
 use std::cmp::Ordering;
 use std::marker::Model;
 
 /// Two different grid points, joined. `a` comes before `b`: by x, and at one x by y.
 /// Edges are ordered by `a`, and at one `a` by `b`.
-#[derive(Clone, Copy, Debug, PartialEq, Eq, PartialOrd, Ord)]
+#[derive(Clone, Copy, Debug, PartialEq, Eq)]
 pub struct Edge {
     a: Point,
     b: Point,
@@ -54,5 +59,35 @@ impl Edge {
         ensures kept { IsEdge self.now }
     {
         self.b
+    }
+}
+
+impl Ord for Edge {
+    ghost use Rattle.grid_core.specs.Edge.{edge_cmp};
+    ghost use Rattle.grid_core.specs.Orders.{edges_in_order};
+
+    ghost cmp = { edge_cmp };
+
+    ghost total = { edges_in_order };
+
+    ghost matches_partial_cmp = { Prim.search (comparing, rules) };
+
+    ghost matches_eq = { Prim.search (comparing, rules) };
+
+    fn cmp(&self, other: &Edge) -> Ordering {
+        self.a.cmp(&other.a).then(self.b.cmp(&other.b))
+    }
+}
+
+impl PartialOrd for Edge {
+    ghost use Rattle.grid_core.specs.Edge.{edge_cmp};
+    ghost use Rattle.grid_core.specs.Orders.{edges_in_order};
+
+    ghost partial_cmp = { as_partial_cmp edge_cmp };
+
+    ghost laws = { po edges_in_order (Prim.search (comparing, rules)) };
+
+    fn partial_cmp(&self, other: &Edge) -> Option<Ordering> {
+        Some(self.cmp(other))
     }
 }

@@ -1,13 +1,18 @@
 //! Names of segments: an editor from 1 to 64, and a serial number from 1 on.
 
 ghost use Rattle.std.specs.Prelude.{◌≡◌, ◌↔◌, IsNone, IfSome};
+ghost use Rattle.std.proofs.Common.{rules};
+ghost use Rattle.std.specs.Cmp.{po};
+ghost use Rattle.std.specs.Cmp.Rules.{comparing};
+ghost use Rattle.std.specs.Ordering.{as_partial_cmp};
 ghost use Rattle.grid_core.specs.Name.{IsLabel, IsNoName};
 
+use std::cmp::Ordering;
 use std::marker::Model;
 
 /// The name of a segment: the editor who drew it, and that editor's serial number of it.
 /// Names are ordered by editor, then by serial.
-#[derive(Clone, Copy, Debug, PartialEq, Eq, PartialOrd, Ord)]
+#[derive(Clone, Copy, Debug, PartialEq, Eq)]
 pub struct Name {
     editor: u8,
     serial: u16,
@@ -52,6 +57,38 @@ impl Name {
         ensures kept { IsLabel self.now }
     {
         self.serial
+    }
+}
+
+impl Ord for Name {
+    ghost use Rattle.grid_core.specs.Name.{label_cmp};
+    ghost use Rattle.grid_core.specs.Orders.{names_in_order};
+
+    ghost cmp = { label_cmp };
+
+    ghost total = { names_in_order };
+
+    ghost matches_partial_cmp = { Prim.search (comparing, rules) };
+
+    ghost matches_eq = { Prim.search (comparing, rules) };
+
+    fn cmp(&self, other: &Name) -> Ordering {
+        self.editor
+            .cmp(&other.editor)
+            .then(self.serial.cmp(&other.serial))
+    }
+}
+
+impl PartialOrd for Name {
+    ghost use Rattle.grid_core.specs.Name.{label_cmp};
+    ghost use Rattle.grid_core.specs.Orders.{names_in_order};
+
+    ghost partial_cmp = { as_partial_cmp label_cmp };
+
+    ghost laws = { po names_in_order (Prim.search (comparing, rules)) };
+
+    fn partial_cmp(&self, other: &Name) -> Option<Ordering> {
+        Some(self.cmp(other))
     }
 }
 
