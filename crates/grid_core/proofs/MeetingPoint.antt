@@ -88,7 +88,7 @@ in_box s area u v m =
     }
 
 -- whole numbers that aren't negative are the natural ones
-as_naturals : (s : Segment) (area : PixelBox) (u v : ℤ) → pos 0 ≤ℤ u → u ≤ℤ v → pos 0 <ℤ v
+pub as_naturals : (s : Segment) (area : PixelBox) (u v : ℤ) → pos 0 ≤ℤ u → u ≤ℤ v → pos 0 <ℤ v
     → IsInBox area (point_along s u v) → HasPointIn s area
 as_naturals s area (pos a) (pos b) h k l w =
     record {

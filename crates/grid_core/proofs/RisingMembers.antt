@@ -4,27 +4,20 @@
 use Rattle.std.proofs.Common.{◌≡◌, refl, sym, ap, ◌∙◌, Bool, true, false, ◌||◌, ◌↔◌, List, [], ◌∷◌}
 use Rattle.std.proofs.Common.{fold, Contains, Ordering, Less, Equal, Greater, is_eq}
 use Rattle.std.specs.BTreeSet.{insert_key}
-use Rattle.std.specs.Cmp.{IsTotalOrder}
+use Rattle.std.specs.Cmp.{IsTotalOrder, both_ways}
 use Rattle.std.specs.List.{AllByRecursion, list_any}
 use Rattle.std.specs.List.Sorted.{IsStrictlySortedBy}
 use Rattle.std.specs.Ordering.{eq_by_cmp, match_ordering, ordering_reverse}
+use Rattle.std.proofs.Math.Bool.{or-false}
 use Rattle.std.proofs.lemmas.Cmp.{alike_right, eq_by_cmp_equiv}
 use Rattle.std.proofs.lemmas.Map.Lookups.{CmpEqualImpliesEq}
 use Rattle.std.proofs.lemmas.Map.Views.{Contains-from_any, list_any-from_Contains, tells_apart}
 use Rattle.grid_core.specs.RisingSet.{rising}
-
-or_false : (a : Bool) → (a || false) ≡ a
-or_false true = refl
-or_false false = refl
+use Rattle.grid_core.proofs.SortedLists.{less_below, or_swapped, sorted_same}
 
 or_twice : (a b : Bool) → (a || b) ≡ (a || (a || b))
 or_twice true b = refl
 or_twice false b = refl
-
-or_swap : (a b c : Bool) → (a || (b || c)) ≡ (b || (a || c))
-or_swap true true c = refl
-or_swap true false c = refl
-or_swap false b c = refl
 
 or_turn : (a b c : Bool) → ((a || b) || c) ≡ (b || (a || c))
 or_turn true true c = refl
@@ -46,19 +39,15 @@ module _ {K : Type 0} {R : K → K → Ordering} (o : IsTotalOrder R) where
       by rest Equal = h
       by rest Greater = (h.0, rest)
 
-  before_later : (k x : K) (ys : List K) → R k x ≡ Less → AllByRecursion (λ y. R x y ≡ Less) ys
-      → AllByRecursion (λ y. R k y ≡ Less) ys
-  before_later k x [] e h = tt
-  before_later k x (y ∷ ys) e h = (o.trans k x y e h.0, before_later k x ys e h.1)
-
-  sorted_inserted : (k : K) (ks : List K) → IsStrictlySortedBy R ks → IsStrictlySortedBy R (insert_key R ks k)
+  -- a member more keeps the order
+  pub sorted_inserted : (k : K) (ks : List K) → IsStrictlySortedBy R ks → IsStrictlySortedBy R (insert_key R ks k)
   unfolding IsStrictlySortedBy
   sorted_inserted k [] s = (tt, tt)
   sorted_inserted k (x ∷ xs) s = by (sorted_inserted k xs s.1) (R k x) refl
     where
       by : IsStrictlySortedBy R (insert_key R xs k) → (r : Ordering) → R k x ≡ r
           → IsStrictlySortedBy R (match_ordering r (k ∷ x ∷ xs) (x ∷ xs) (x ∷ insert_key R xs k))
-      by rest Less e = ((e, before_later k x xs e s.0), s)
+      by rest Less e = ((e, less_below o k x xs e s.0), s)
       by rest Equal e = s
       by rest Greater e = (all_inserted (λ y. R x y ≡ Less) k xs (o.antisymm x k ∙ ap ordering_reverse e) s.0, rest)
 
@@ -90,13 +79,13 @@ module _ {K : Type 0} {R : K → K → Ordering} (o : IsTotalOrder R) where
           or_twice (eq_by_cmp R q x) (list_any (eq_by_cmp R q) xs)
           ∙ ap (λ r. is_eq r || (eq_by_cmp R q x || list_any (eq_by_cmp R q) xs)) (sym (alike_right o k x q e))
       by rest Greater e =
-          ap (λ b. eq_by_cmp R q x || b) rest ∙ or_swap (eq_by_cmp R q x) (eq_by_cmp R q k)
+          ap (λ b. eq_by_cmp R q x || b) rest ∙ or_swapped (eq_by_cmp R q x) (eq_by_cmp R q k)
           (list_any (eq_by_cmp R q) xs)
 
   any_folded : (q : K) (done ks : List K)
       → list_any (eq_by_cmp R q) (fold (insert_key R) done ks)
       ≡ (list_any (eq_by_cmp R q) done || list_any (eq_by_cmp R q) ks)
-  any_folded q done [] = sym (or_false (list_any (eq_by_cmp R q) done))
+  any_folded q done [] = sym (or-false (list_any (eq_by_cmp R q) done))
   any_folded q done (k ∷ ks) =
       any_folded q (insert_key R done k) ks
       ∙ ap (λ b. b || list_any (eq_by_cmp R q) ks) (any_inserted q k done)
@@ -117,3 +106,12 @@ module _ {K : Type 0} {R : K → K → Ordering} (o : IsTotalOrder R) where
       λ h. (any_iff q ks).0 (sym (any_rising q ks) ∙ (any_iff q (rising R ks)).1 h),
       λ h. (any_iff q (rising R ks)).0 (any_rising q ks ∙ (any_iff q ks).1 h),
     )
+
+    -- two rising lists that have each other's members are one list
+    pub same_members : (xs ys : List K) → IsStrictlySortedBy R xs → IsStrictlySortedBy R ys
+        → ((q : K) → Contains xs q ↔ Contains ys q) → xs ≡ ys
+    same_members xs ys s t h =
+        sorted_same o exact xs ys s t
+        (λ q. both_ways (list_any (eq_by_cmp R q) xs) (list_any (eq_by_cmp R q) ys)
+        (λ k. (any_iff q ys).1 ((h q).0 ((any_iff q xs).0 k)))
+        (λ k. (any_iff q xs).1 ((h q).1 ((any_iff q ys).0 k))))

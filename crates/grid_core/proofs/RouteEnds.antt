@@ -8,7 +8,6 @@ use Rattle.std.specs.Prelude.{◌<ℤ◌}
 use Rattle.std.specs.Cmp.{IsTotalOrder, int_cmp_is}
 use Rattle.std.specs.List.{AllByRecursion, slice_get}
 use Rattle.std.specs.List.Sorted.{IsStrictlySortedBy}
-use Rattle.std.specs.Ordering.{ordering_reverse}
 use Rattle.std.proofs.lemmas.List.Elements.{Contains-append_left}
 use Rattle.grid_core.specs.declared.point.Point.{Point}
 use Rattle.grid_core.specs.Segment.{Segment, direction}
@@ -21,12 +20,13 @@ use Rattle.grid_core.proofs.Order.{point_total, point_exact}
 use Rattle.grid_core.proofs.RisingMembers.{contains_rising}
 use Rattle.grid_core.proofs.RoundingMembers.{route_is_met}
 use Rattle.grid_core.proofs.RouteOrder.{along_total}
+use Rattle.grid_core.proofs.SortedLists.{not_both, not_itself}
 
 -- ---- the ends of a list in order
 
 module _ {K : Type 0} where
   -- what holds of every element holds of one of them
-  all_at : (P : K → Type 0) (xs : List K) (x : K) → AllByRecursion P xs → Contains xs x → P x
+  pub all_at : (P : K → Type 0) (xs : List K) (x : K) → AllByRecursion P xs → Contains xs x → P x
   all_at P [] x h c = absurd (omega (arith, c.1))
   all_at P (y ∷ ys) x h c = by (all_at P ys x h.1) (contains_cases y ys x c)
     where
@@ -35,12 +35,6 @@ module _ {K : Type 0} where
       by rest (inr d) = rest d
 
 module _ {K : Type 0} {R : K → K → Ordering} (o : IsTotalOrder R) where
-  not_both : (x y : K) → R x y ≡ Less → R y x ≡ Less → ⊥
-  not_both x y h k = cc (h, o.antisymm x y, ap ordering_reverse k)
-
-  not_itself : (x y : K) → x ≡ y → R x y ≡ Less → ⊥
-  not_itself x y e h = not_both x y h (subst (λ z. R z x ≡ Less) e (subst (λ z. R x z ≡ Less) (sym e) h))
-
   -- a member that has no other before it is the first
   pub first_is : (p : K) (xs : List K) → IsStrictlySortedBy R xs → Contains xs p
       → ((x : K) → Contains xs x → (p ≡ x) ⊎ (R p x ≡ Less))
@@ -52,7 +46,7 @@ module _ {K : Type 0} {R : K → K → Ordering} (o : IsTotalOrder R) where
       by : (x ≡ p) ⊎ Contains xs p → (p ≡ x) ⊎ (R p x ≡ Less) → Some x ≡ Some p
       by (inl e) k = ap Some e
       by (inr d) (inl e) = ap Some (sym e)
-      by (inr d) (inr less) = absurd (not_both x p (all_at (λ y. R x y ≡ Less) xs p s.0 d) less)
+      by (inr d) (inr less) = absurd (not_both o x p (all_at (λ y. R x y ≡ Less) xs p s.0 d) less)
 
   -- a member that has no other after it is the last
   pub last_is : (q : K) (xs : List K) → IsStrictlySortedBy R xs → Contains xs q
@@ -76,8 +70,8 @@ module _ {K : Type 0} {R : K → K → Ordering} (o : IsTotalOrder R) where
       later = omega arith
 
       by : (x ≡ q) ⊎ Contains (y ∷ ys) q → (y ≡ q) ⊎ (R y q ≡ Less) → Contains (y ∷ ys) q
-      by (inl e) (inl f) = absurd (not_itself x y (e ∙ sym f) s.0.0)
-      by (inl e) (inr less) = absurd (not_both x y s.0.0 (subst (λ z. R y z ≡ Less) (sym e) less))
+      by (inl e) (inl f) = absurd (not_itself o x y (e ∙ sym f) s.0.0)
+      by (inl e) (inr less) = absurd (not_both o x y s.0.0 (subst (λ z. R y z ≡ Less) (sym e) less))
       by (inr d) f = d
 
 -- ---- the ends of a route

@@ -1,7 +1,7 @@
 -- Routes, whose pixels have different products: to order them by the product alone or by the
 -- product and the pixel gives one list, which has the members of the list that it is made of.
 
-use Rattle.std.proofs.Common.{◌≡◌, refl, ap, subst, ◌∙◌, Bool, true, false, cond, ◌↔◌, List, []}
+use Rattle.std.proofs.Common.{◌≡◌, refl, ap, subst, ◌∙◌, ◌↔◌, List, []}
 use Rattle.std.proofs.Common.{◌∷◌, filter, fold, Contains, IsTrue, Ordering, Less, Equal, Greater}
 use Rattle.std.specs.BTreeSet.{insert_key}
 use Rattle.std.specs.Cmp.{IsTotalOrder}
@@ -16,6 +16,7 @@ use Rattle.grid_core.specs.Meets.{meets_pixel_of}
 use Rattle.grid_core.specs.RisingSet.{rising}
 use Rattle.grid_core.specs.Rounding.{along_cmp}
 use Rattle.grid_core.proofs.AlongSegments.{one_product}
+use Rattle.grid_core.proofs.Filters.{all_kept}
 use Rattle.grid_core.proofs.RisingMembers.{all_inserted, contains_rising}
 use Rattle.grid_core.proofs.Order.{point_total, point_exact, point_same}
 
@@ -39,16 +40,6 @@ module _ {K : Type 0} (Φ : K → Type 0) (R S : K → K → Ordering) (o : IsTo
   -- two orders that agree on a list's members put them into one order
   pub rising_alike : (ks : List K) → AllByRecursion Φ ks → rising R ks ≡ rising S ks
   rising_alike ks h = folded_alike [] ks tt h
-
--- what a filter keeps has passed its test
-all_passed : {K : Type 0} (p : K → Bool) (ks : List K) → AllByRecursion (λ k. IsTrue (p k)) (filter p ks)
-all_passed p [] = tt
-all_passed p (k ∷ ks) = by (p k) refl (all_passed p ks)
-  where
-    by : (b : Bool) → p k ≡ b → AllByRecursion (λ x. IsTrue (p x)) (filter p ks)
-        → AllByRecursion (λ x. IsTrue (p x)) (cond b (k ∷ filter p ks) (filter p ks))
-    by true e rest = (e, rest)
-    by false e rest = rest
 
 -- ---- the order of a route
 
@@ -79,7 +70,8 @@ pub rising_by_product : (s : Segment) (hs : List Point)
 rising_by_product s hs =
     rising_alike (λ h. IsTrue (meets_pixel_of s h)) (along_and_pixel_cmp s) (along_cmp s)
     (along_total s) (orders_agree s)
-    (filter (meets_pixel_of s) hs) (all_passed (meets_pixel_of s) hs)
+    (filter (meets_pixel_of s) hs)
+    (all_kept (λ h. IsTrue (meets_pixel_of s h)) (meets_pixel_of s) (λ h e. e) hs)
 
 -- ---- members
 
