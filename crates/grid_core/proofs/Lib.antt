@@ -10,6 +10,7 @@ pub mod LiveLists
 pub mod MeetingPoint
 pub mod Order
 pub mod Polynomial
+pub mod Quotients
 pub mod Ring
 pub mod RisingMembers
 pub mod RisingSets
@@ -20,6 +21,7 @@ pub mod Signed
 pub mod Sizes
 pub mod SortedLists
 pub mod Tables
+pub mod TileOrder
 pub mod WorkedContours
 pub mod WorkedDrawings
 pub mod WorkedPlaces
