@@ -4,7 +4,7 @@
 -- puts the point into its pixel.
 
 use Rattle.std.proofs.Common.{◌≡◌, refl, ap, sym, ◌∙◌, ℕ, suc, ◌*◌, ◌+◌, ◌/◌, ◌<◌, ◌≤◌, arith, Bool, true, false, ◌&&◌, [], ◌∷◌}
-use Rattle.std.proofs.Common.{IsTrue, IfSome, Some, None, subst, option_map, ◌↔◌}
+use Rattle.std.proofs.Common.{IsTrue, IfSome, Some, None, subst, option_map}
 use Rattle.std.specs.Prelude.{ℤ, pos, negsuc, neg_ℤ, ◌+ℤ◌, ◌-ℤ◌, ◌*ℤ◌, ◌≤ℤ◌, ◌<ℤ◌, int_lt, Option, if◌then◌else◌}
 use Rattle.std.specs.Int.{int_div_euclid}
 use Rattle.std.proofs.lemmas.Int.{ints}
@@ -18,7 +18,6 @@ use Rattle.grid_core.specs.Crossing.{pixel_coordinate, pixel_of}
 use Rattle.grid_core.specs.Rounding.{crossing_pixel}
 use Rattle.grid_core.specs.Laws.{IsFromTo, IsInBox}
 use Rattle.grid_core.proofs.Signed.{signed, same_lt, from_lt_true}
-use Rattle.grid_core.proofs.Ring.{int_mul-le_left, int_lt_of_mul}
 use Rattle.grid_core.proofs.Polynomial.{V, K, ◌⊕◌, ◌⊖◌, ◌⊗◌, same_polynomial}
 use Rattle.grid_core.proofs.MeetingPoint.{meets_where_a_point_lies, as_naturals}
 
@@ -60,28 +59,6 @@ floor_high a m h =
           negative_times m (a / m),
           whole_part a m (omega (arith, signed, h)),
         )
-
--- the quotient is at most j exactly where the number is below m (j + 1)
-pub floor_le : (a m j : ℤ) → pos 0 <ℤ m → (int_div_euclid a m ≤ℤ j) ↔ (a <ℤ (m *ℤ (j +ℤ pos 1)))
-floor_le a m j h = (
-  λ k.
-      let more = int_mul-le_left m (int_div_euclid a m +ℤ pos 1) (j +ℤ pos 1) (omega (arith, signed, h)) (omega (arith, signed, k)) in
-      omega (arith, signed, more, floor_high a m h),
-  λ k.
-      let less = int_lt_of_mul m (int_div_euclid a m) (j +ℤ pos 1) h (omega (arith, signed, k, floor_low a m h)) in
-      omega (arith, signed, less),
-)
-
--- the quotient is at least j exactly where the number is at least m j
-pub floor_ge : (a m j : ℤ) → pos 0 <ℤ m → (j ≤ℤ int_div_euclid a m) ↔ ((m *ℤ j) ≤ℤ a)
-floor_ge a m j h = (
-  λ k.
-      let more = int_mul-le_left m j (int_div_euclid a m) (omega (arith, signed, h)) k in
-      omega (arith, signed, more, floor_low a m h),
-  λ k.
-      let less = int_lt_of_mul m j (int_div_euclid a m +ℤ pos 1) h (omega (arith, signed, k, floor_high a m h)) in
-      omega (arith, signed, less),
-)
 
 -- ---- the crossing of t and s
 

@@ -10,6 +10,7 @@ use Rattle.std.proofs.lemmas.Cmp.{int_cmp_total, tied_itself, then_total, on_tot
 use Rattle.std.proofs.lemmas.Map.Lookups.{CmpEqualImpliesEq, exact_signed}
 use Rattle.grid_core.specs.declared.tile.TileId.{TileId}
 use Rattle.grid_core.specs.Segment.{Segment}
+use Rattle.grid_core.specs.Orders.{tiles_in_order}
 use Rattle.grid_core.specs.Tiles.{tile_cmp, tile_eq, falls, along_tile_cmp}
 use Rattle.grid_core.proofs.Comparisons.{is_equal}
 
@@ -21,7 +22,7 @@ both_equal Greater l f g h = absurd (cc h)
 -- ---- by column and row
 
 pub tile_total : IsTotalOrder tile_cmp
-tile_total = then_total (on_total (λ (t : TileId). t.i) int_cmp_total) (on_total (λ (t : TileId). t.j) int_cmp_total)
+tile_total = tiles_in_order
 
 pub tile_exact : CmpEqualImpliesEq tile_cmp
 tile_exact a b h =

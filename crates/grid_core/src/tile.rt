@@ -2,20 +2,55 @@
 
 ghost use Rattle.std.specs.Prelude.{◌≡◌, ◌≤◌, ◌^◌, pos, ◌<ℤ◌, ◌*ℤ◌, ◌-ℤ◌, ◌+ℤ◌, unsigned_abs};
 ghost use Rattle.std.specs.Int.{int_div_euclid};
+ghost use Rattle.std.proofs.Common.{rules};
+ghost use Rattle.std.specs.Cmp.{po};
+ghost use Rattle.std.specs.Cmp.Rules.{comparing};
+ghost use Rattle.std.specs.Ordering.{as_partial_cmp};
 ghost use Rattle.grid_core.specs.Vector.{IsWithin};
 ghost use Rattle.grid_core.specs.Tiles.{tile_of, tile_box};
 
 use crate::{PixelBox, Point, Profile};
+use std::cmp::Ordering;
 
 /// The number of a tile: its column and its row. Tile (0, 0) has pixel (0, 0) in its lower left
 /// corner, and each tile has `side` by `side` pixels.
 /// Tiles are ordered by column, and in one column by row.
-#[derive(Clone, Copy, Debug, PartialEq, Eq, PartialOrd, Ord)]
+#[derive(Clone, Copy, Debug, PartialEq, Eq)]
 pub struct TileId {
     /// The column, rightwards.
     pub i: i32,
     /// The row, upwards.
     pub j: i32,
+}
+
+impl Ord for TileId {
+    ghost use Rattle.grid_core.specs.Tiles.{tile_cmp};
+    ghost use Rattle.grid_core.specs.Orders.{tiles_in_order};
+
+    ghost cmp = { tile_cmp };
+
+    ghost total = { tiles_in_order };
+
+    ghost matches_partial_cmp = { Prim.search (comparing, rules) };
+
+    ghost matches_eq = { Prim.search (comparing, rules) };
+
+    fn cmp(&self, other: &TileId) -> Ordering {
+        self.i.cmp(&other.i).then(self.j.cmp(&other.j))
+    }
+}
+
+impl PartialOrd for TileId {
+    ghost use Rattle.grid_core.specs.Tiles.{tile_cmp};
+    ghost use Rattle.grid_core.specs.Orders.{tiles_in_order};
+
+    ghost partial_cmp = { as_partial_cmp tile_cmp };
+
+    ghost laws = { po tiles_in_order (Prim.search (comparing, rules)) };
+
+    fn partial_cmp(&self, other: &TileId) -> Option<Ordering> {
+        Some(self.cmp(other))
+    }
 }
 
 /// The tile in which the pixel `at` lies.
