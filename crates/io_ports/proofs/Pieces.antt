@@ -1,11 +1,11 @@
 -- Several reads or writes, one after the other, take or write their pieces joined. Each law goes by
 -- cases on what is told before, in between and afterwards.
-use Rattle.std.proofs.Common.{◌≡◌, ℕ, ◌+◌, ◌-◌, ◌<◌, ◌≤◌, List, [], ◌++◌, Option, None, Some, IfSome, length, take, drop, min, sym, ap, ◌∙◌, subst, arith, append-nil, length-append, take-append-drop}
+use Rattle.std.proofs.Common.{◌≡◌, ℕ, ◌+◌, ◌-◌, ◌<◌, ◌≤◌, List, [], ◌++◌, Option, None, Some, IfSome, length, take, drop, min, sym, ap, ◌∙◌, subst, arith, length-append, take-append-drop}
 use Rattle.std.proofs.lemmas.List.{drop_all, take_all, take_at, take_rest, drop-drop, length-drop, length-take, length-take-le}
 use Rattle.std.proofs.Math.Seq.{take-add, take-append-add}
 use Rattle.std.specs.Io.KnownBytes.{Appends, Consumes, Keeps}
-use Rattle.std.proofs.KnownBytes.{Appends-kept, Appends-nil, Appends-trans, Consumes-trans, Consumes-whole}
-use Rattle.io_ports.specs.Transfers.{TakesAll, TakesAtMost, TakesExactly, WritesPrefix}
+use Rattle.std.proofs.KnownBytes.{Appends-kept, Appends-nil, Appends-trans, Consumes-trans}
+use Rattle.io_ports.specs.Transfers.{TakesAtMost, TakesExactly, WritesPrefix}
 
 -- the front of what is left from an index on fills the front of a buffer, as far as either goes
 pub front_is_read : (all xs front buf left : List ℕ) (i n : ℕ)
@@ -21,20 +21,6 @@ front_is_read all xs front buf left i n same view filled most =
       sym view ∙ sym (take-append-drop n (drop i xs)) ∙ ap (λ l. take n (drop i xs) ++ l) (drop-drop n i xs) ∙ ap (λ l. l ++ drop (i + n) xs) (sym kept),
       λ none some. drop_all (i + n) xs (omega (arith, length-drop i xs, length-drop n buf, length-append front (drop n buf))),
     )
-
--- what holds of all that was taken holds of all that was left
-pub of_what_was_left : (old new : Option (List ℕ)) (bs : List ℕ) (P : List ℕ → Type 0) → TakesAll old new bs → P bs → IfSome old P
-of_what_was_left old new bs P t h = Consumes-whole old new bs P t.0 t.1 h
-
--- of a source that tells its bytes, all that was taken is all that was left
-pub all_is_left : (xs bs : List ℕ) (new : Option (List ℕ)) → TakesAll (Some xs) new bs → bs ≡ xs
-all_is_left xs bs None t = absurd t.0
-all_is_left xs bs (Some ys) t = sym (t.0 ∙ ap (λ l. bs ++ l) t.1 ∙ append-nil bs)
-
--- of a source that tells its bytes, no more are taken than are left
-pub exactly_within : (xs : List ℕ) (new : Option (List ℕ)) (n : ℕ) → TakesExactly (Some xs) new n → n ≤ length xs
-exactly_within xs None n t = absurd t.1
-exactly_within xs (Some ys) n t = omega (arith, ap length t.1, length-append t.0 ys, t.2)
 
 -- of a source that tells its bytes, the number of those taken has one value
 pub exactly_once : (xs bs : List ℕ) (new : Option (List ℕ)) (n : ℕ) → Consumes (Some xs) new bs → TakesExactly (Some xs) new n → n ≡ length bs

@@ -1,7 +1,13 @@
--- The sink over a writer of std, as contracts see it: nothing is told of what was written.
+-- A source over a reader of std and a sink over a writer, as contracts see them: with what they wrap.
 use Rattle.std.specs.Prelude.{ℕ, Bool}
 
--- whether the sink is shut, and how many of its calls failed
-pub record SinkState : Type 0 where
+-- the reader, and how many of its calls failed
+pub record OverReader (R : Type 0) : Type 0 where
+  pub inner : R
+  pub faults : ℕ
+
+-- the writer, whether the sink is shut, and how many of its calls failed
+pub record OverWriter (W : Type 0) : Type 0 where
+  pub inner : W
   pub is_shut : Bool
   pub faults : ℕ

@@ -1,7 +1,8 @@
 //! A source over any reader of std and a sink over any writer: the trusted edge of a program.
 //!
-//! What a file, a socket or a terminal gives or takes is outside all contracts, so these two tell
-//! no bytes. Their counts of faults are kept here, and every error of std counts as a fault.
+//! They tell the bytes that are left and those that were written where the reader and the writer
+//! tell them; of a file, a socket or a terminal nothing is told. Their counts of faults are kept
+//! here, and every error of std counts as a fault.
 ghost use Rattle.std.specs.Prelude.{◌≡◌};
 ghost use Rattle.io_ports.specs.Causes.{after_fault};
 
@@ -20,7 +21,7 @@ fn with_fault(faults: u64) -> u64
     }
 }
 
-/// A source that reads from `R`. Contracts see it as its count of faults.
+/// A source that reads from `R`. Contracts see it as the reader and the count of faults.
 #[derive(Debug, Drop)]
 pub struct StdSource<R> {
     inner: R,
@@ -28,34 +29,39 @@ pub struct StdSource<R> {
 }
 
 impl<R> Model for StdSource<R> {
-    ghost use Rattle.std.specs.Prelude.{ℕ};
+    ghost use Rattle.io_ports.specs.Adapters.{OverReader};
 
-    ghost Value = { ℕ };
+    ghost Value = { OverReader R };
 
-    ghost view = { λ s. s.faults };
+    ghost view = { λ s. record { inner = s.inner; faults = s.faults } };
 }
 
 impl<R: Read> StdSource<R> {
     /// The source that reads from `inner`. A read of 0 bytes is its end.
     pub fn over(inner: R) -> StdSource<R>
-        ensures { result ≡ 0 }
+        ensures reader { result.inner ≡ inner }
+        ensures no_fault { result.faults ≡ 0 }
     {
         StdSource { inner, faults: 0 }
     }
 }
 
 impl<R: Read> Source for StdSource<R> {
-    ghost use Rattle.std.specs.Prelude.{◌≡◌, None, is_ok, if◌then◌else◌};
+    ghost use Rattle.std.specs.Prelude.{◌≡◌, is_ok, if◌then◌else◌};
     ghost use Rattle.std.specs.Io.{ReadsAtMost};
+    ghost use Rattle.std.specs.Io.KnownBytes.{ReadConsumes};
     ghost use Rattle.io_ports.specs.Causes.{after_fault};
 
-    ghost left = { λ _. None };
+    ghost left = { λ s. R.remaining s.inner };
 
-    ghost faults = { λ s. s };
+    ghost faults = { λ s. s.faults };
 
     fn read(&mut self, buf: &mut [u8]) -> Result<usize, Failed>
         ensures bound { ReadsAtMost result buf.new }
-        ensures counted { self.new ≡ (if is_ok result then self.old else after_fault self.old) }
+        ensures bytes { ReadConsumes (R.remaining self.old.inner) (R.remaining self.new.inner)
+            result buf.new }
+        ensures counted { self.new.faults
+            ≡ (if is_ok result then self.old.faults else after_fault self.old.faults) }
     {
         match self.inner.read(buf) {
             Ok(n) => Ok(n),
@@ -67,7 +73,8 @@ impl<R: Read> Source for StdSource<R> {
     }
 }
 
-/// A sink that writes to `W`. To close it flushes `W`.
+/// A sink that writes to `W`. To close it flushes `W`. Contracts see it as the writer, whether it
+/// is shut, and the count of faults.
 #[derive(Debug, Drop)]
 pub struct StdSink<W> {
     inner: W,
@@ -76,11 +83,11 @@ pub struct StdSink<W> {
 }
 
 impl<W> Model for StdSink<W> {
-    ghost use Rattle.io_ports.specs.Adapters.{SinkState};
+    ghost use Rattle.io_ports.specs.Adapters.{OverWriter};
 
-    ghost Value = { SinkState };
+    ghost Value = { OverWriter W };
 
-    ghost view = { λ k. record { is_shut = k.is_shut; faults = k.faults } };
+    ghost view = { λ k. record { inner = k.inner; is_shut = k.is_shut; faults = k.faults } };
 }
 
 impl<W: Write> StdSink<W> {
@@ -88,6 +95,7 @@ impl<W: Write> StdSink<W> {
 
     /// The sink that writes to `inner`.
     pub fn over(inner: W) -> StdSink<W>
+        ensures writer { result.inner ≡ inner }
         ensures open { result.is_shut ≡ false }
         ensures no_fault { result.faults ≡ 0 }
     {
@@ -100,12 +108,13 @@ impl<W: Write> StdSink<W> {
 }
 
 impl<W: Write> Sink for StdSink<W> {
-    ghost use Rattle.std.specs.Prelude.{◌≡◌, ◌<◌, ◌↔◌, None, false, length, is_ok, if◌then◌else◌};
+    ghost use Rattle.std.specs.Prelude.{◌≡◌, ◌<◌, ◌↔◌, false, length, is_ok, if◌then◌else◌};
     ghost use Rattle.std.specs.Prelude.{IfOk, IfErr, IsOk, IsTrue};
     ghost use Rattle.std.specs.Io.{WritesAtMost};
+    ghost use Rattle.std.specs.Io.KnownBytes.{Keeps, WriteAppends};
     ghost use Rattle.io_ports.specs.Causes.{after_fault};
 
-    ghost written = { λ _. None };
+    ghost written = { λ k. W.contents k.inner };
 
     ghost shut = { λ k. k.is_shut };
 
@@ -115,6 +124,8 @@ impl<W: Write> Sink for StdSink<W> {
     fn write(&mut self, buf: &[u8]) -> Result<usize, SinkFault>
         ensures bound { WritesAtMost result buf.now }
         ensures some { IfOk result (λ n. 0 < length buf.now → 0 < n) }
+        ensures bytes { WriteAppends (W.contents self.old.inner) (W.contents self.new.inner)
+            result buf.now }
         ensures failed { IfErr result (λ fault. fault ≡ SinkFault.Failed) }
         ensures counted { self.new.faults
             ≡ (if is_ok result then self.old.faults else after_fault self.old.faults) }
@@ -131,6 +142,7 @@ impl<W: Write> Sink for StdSink<W> {
     }
 
     fn close(&mut self) -> Result<(), SinkFault>
+        ensures bytes { Keeps (W.contents self.old.inner) (W.contents self.new.inner) }
         ensures failed { IfErr result (λ fault. fault ≡ SinkFault.Failed) }
         ensures counted { self.new.faults
             ≡ (if is_ok result then self.old.faults else after_fault self.old.faults) }

@@ -1,6 +1,6 @@
 //! What bytes are written to.
 ghost use Rattle.std.specs.Prelude.{◌≡◌, ℕ, ◌≤◌, ◌<◌, ◌↔◌, List, length, Option, Bool, false};
-ghost use Rattle.std.specs.Prelude.{IfOk, IsOk, IsErrOf, IsTrue};
+ghost use Rattle.std.specs.Prelude.{IfOk, OnOk, IsOk, IsErrOf, IsTrue};
 ghost use Rattle.std.specs.Io.{WritesAtMost};
 ghost use Rattle.std.specs.Io.KnownBytes.{Keeps, WriteAppends};
 ghost use Rattle.io_ports.specs.Causes.{Rose};
@@ -25,6 +25,7 @@ pub trait Sink {
         ensures some { IfOk result (λ n. 0 < length buf.now → 0 < n) }
         ensures bytes { WriteAppends (written self.old) (written self.new) result buf.now }
         ensures later { faults self.old ≤ faults self.new }
+        ensures no_fault { OnOk result (faults self.new ≡ faults self.old) }
         ensures failed { IsErrOf result SinkFault.Failed
             → Rose (faults self.old) (faults self.new) }
         ensures memory { IsErrOf result SinkFault.Memory → faults self.new ≡ faults self.old }
@@ -34,6 +35,7 @@ pub trait Sink {
     fn close(&mut self) -> Result<(), SinkFault>
         ensures bytes { Keeps (written self.old) (written self.new) }
         ensures later { faults self.old ≤ faults self.new }
+        ensures no_fault { OnOk result (faults self.new ≡ faults self.old) }
         ensures failed { IsErrOf result SinkFault.Failed
             → Rose (faults self.old) (faults self.new) }
         ensures memory { IsErrOf result SinkFault.Memory → faults self.new ≡ faults self.old }

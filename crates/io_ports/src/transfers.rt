@@ -1,6 +1,6 @@
 //! All bytes of a source, and a whole list of bytes to a sink.
 ghost use Rattle.std.specs.Prelude.{◌≡◌, ◌+◌, ◌≤◌, ◌<◌, ◌⊎◌, length, false, vec_len};
-ghost use Rattle.std.specs.Prelude.{IfOk, OnOk, OnErr, IfSome, IsErrOf};
+ghost use Rattle.std.specs.Prelude.{IfOk, OnOk, OnErr, IsOk, IfSome, IsErrOf};
 ghost use Rattle.std.specs.Io.KnownBytes.{Appends};
 ghost use Rattle.io_ports.specs.Causes.{Rose};
 ghost use Rattle.io_ports.specs.Transfers.{TakesAll, TakesAtMost, TakesExactly, WritesPrefix};
@@ -33,6 +33,8 @@ pub fn read_all<S: Source>(
     ensures failed { IsErrOf result ReadFault.Failed
         → Rose (S.faults source.old) (S.faults source.new) }
     ensures later { S.faults source.old ≤ S.faults source.new }
+    ensures no_fault { IsErrOf result ReadFault.Failed
+        ⊎ (S.faults source.new ≡ S.faults source.old) }
 {
     let mut bytes = Vec::new(alloc);
     let mut piece = [0; PIECE];
@@ -62,8 +64,9 @@ pub fn write_whole<K: Sink>(sink: &mut K, bytes: &[u8]) -> Result<(), SinkFault>
     ensures failed { IsErrOf result SinkFault.Failed
         → Rose (K.faults sink.old) (K.faults sink.new) }
     ensures later { K.faults sink.old ≤ K.faults sink.new }
+    ensures no_fault { IsErrOf result SinkFault.Failed ⊎ (K.faults sink.new ≡ K.faults sink.old) }
     ensures open { 0 < length bytes.now → K.shut sink.new ≡ false }
-    ensures untouched { length bytes.now ≡ 0 → sink.new ≡ sink.old }
+    ensures untouched { length bytes.now ≡ 0 → IsOk result × (sink.new ≡ sink.old) }
 {
     let mut done = 0;
     while done < bytes.len() {

@@ -7,7 +7,7 @@ abbrev pub invariant-loop-done : goal.invariant-loop-done
 invariant-loop-done g l = record {
   within : l.done ≤ length l.bytes;
   written : Appends (g.K.Sink.written l.fn.sink) (g.K.Sink.written l.sink) (take l.done l.bytes);
-  later : g.K.Sink.faults l.fn.sink ≤ g.K.Sink.faults l.sink;
+  no_fault : g.K.Sink.faults l.sink ≡ g.K.Sink.faults l.fn.sink;
   is_open : 0 < l.done → g.K.Sink.shut l.sink ≡ false;
   untouched : l.done ≡ 0 → l.sink ≡ l.fn.sink;
 }
