@@ -4,13 +4,14 @@ ghost use Rattle.std.specs.Prelude.{◌≡◌, ℤ, pos, ◌≤◌, ◌^◌, ◌
 ghost use Rattle.grid_core.specs.Vector.{IsWithin};
 ghost use Rattle.grid_core.specs.Segment.{IsSegment};
 ghost use Rattle.grid_core.specs.Meets.{IsBox, meets_of, meets_pixel_of};
+ghost use Rattle.grid_core.specs.Tiles.{tile_box, meets_tile};
 ghost use Rattle.pixel_test.specs.Corners.{shares_columns_of, shares_rows_of, overlaps_of};
 ghost use Rattle.pixel_test.specs.Corners.{twice_of, upper_left_of, upper_right_of};
 ghost use Rattle.pixel_test.specs.Corners.{lower_left_of, lower_right_of};
 ghost use Rattle.pixel_test.specs.Corners.{corner_side_of, is_left_of, is_right_of, rises_of};
 ghost use Rattle.pixel_test.specs.Corners.{straddles_rising_of, straddles_falling_of, straddles_of};
 
-use grid_core::{PixelBox, Point, Ur, cross, vector};
+use grid_core::{PixelBox, Point, Profile, TileId, Ur, cross, tile_box, vector};
 
 /// Whether some point of the segment, ends included, lies in the box. In the box `lo` isn't past
 /// `hi` in either coordinate, and both are at most 2^31 in size.
@@ -30,6 +31,16 @@ pub fn meets_pixel(s: &Ur, at: Point) -> bool
     ensures { result ≡ meets_pixel_of s.now at }
 {
     meets(s, &PixelBox { lo: at, hi: at })
+}
+
+/// Whether some point of the segment, ends included, lies in the tile. The pixels in the tile's
+/// corners have coordinates of at most 2^31 in size.
+#[inline]
+pub fn meets_tile(s: &Ur, profile: &Profile, id: TileId) -> bool
+    requires { IsBox (2 ^ 31) (tile_box profile.now id) }
+    ensures { result ≡ meets_tile profile.now id s.now }
+{
+    meets(s, &tile_box(profile, id))
 }
 
 /// Whether the box of the pixels of both ends overlaps the box.

@@ -1,4 +1,4 @@
-//! Whether a segment meets a box of pixels, by the sides of the box's corners.
+//! Whether a segment meets a box of pixels, as one pixel or a tile, by the sides of the box's corners.
 //!
 //! A box has its left and its lower side, and not its right and its upper one:
 //!
@@ -14,7 +14,7 @@
 
 mod corners;
 
-pub use corners::{meets, meets_pixel};
+pub use corners::{meets, meets_pixel, meets_tile};
 
 #[cfg(test)]
 mod tests;

@@ -1,5 +1,5 @@
-use crate::{meets, meets_pixel};
-use grid_core::{Name, PixelBox, Point, Profile, Ur};
+use crate::{meets, meets_pixel, meets_tile};
+use grid_core::{Name, PixelBox, Point, Profile, TileId, Ur};
 use std::process::Abort;
 
 /// The segment between two points, given as four coordinates.
@@ -91,5 +91,53 @@ fn boxes_of_several_pixels(rt: HostRuntime) {
     ] {
         let s = segment(&rt, ends);
         assert_eq!(rt; meets(&s, &area), want, "{way}");
+    }
+}
+
+#[test]
+fn tiles_around_a_corner(rt: HostRuntime) {
+    for (way, ends, tiles) in [
+        (
+            "up through the corner",
+            [255, 255, 256, 256],
+            [true, false, false, true],
+        ),
+        (
+            "down through the corner",
+            [255, 256, 256, 255],
+            [false, true, true, true],
+        ),
+        (
+            "level in the last row",
+            [0, 255, 300, 255],
+            [true, false, true, false],
+        ),
+        (
+            "upright in the first column",
+            [256, 0, 256, 300],
+            [false, false, true, true],
+        ),
+        (
+            "steep, below the corner",
+            [254, 250, 257, 260],
+            [true, false, true, true],
+        ),
+        (
+            "steep, above the corner",
+            [253, 252, 258, 262],
+            [true, true, false, true],
+        ),
+    ] {
+        let s = segment(&rt, ends);
+        let [lower_left, upper_left, lower_right, upper_right] = tiles;
+        for (i, j, want) in [
+            (0, 0, lower_left),
+            (0, 1, upper_left),
+            (1, 0, lower_right),
+            (1, 1, upper_right),
+        ] {
+            let met = meets_tile(&s, &Profile::edition_one(), TileId { i, j });
+            assert_eq!(rt; met, want, "{way}, tile ({i}, {j})");
+        }
     }
 }
