@@ -1,0 +1,9 @@
+pub mod TileBoxes
+pub mod AlongTiles
+pub mod Kept
+pub mod Locality
+pub mod JoinedLists
+pub mod MetTiles
+pub mod RouteTiles
+pub mod TileSums
+pub mod Edits
