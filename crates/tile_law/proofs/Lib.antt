@@ -7,3 +7,4 @@ pub mod MetTiles
 pub mod RouteTiles
 pub mod TileSums
 pub mod Edits
+pub mod WorkedCorner
