@@ -4,6 +4,7 @@ pub mod Kept
 pub mod Locality
 pub mod JoinedLists
 pub mod MetTiles
+pub mod Reach
 pub mod RouteTiles
 pub mod TileSums
 pub mod Edits

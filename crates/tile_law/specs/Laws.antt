@@ -1,5 +1,5 @@
 -- The laws of tiles, for every profile, segment and list of segments.
-use Rattle.std.specs.Prelude.{◌≡◌, ℕ, ◌+◌, ◌*◌, ◌<◌, IsTrue, IsFalse, ◌↔◌, List, filter, flat_map, sum_by, Contains}
+use Rattle.std.specs.Prelude.{◌≡◌, ℕ, ◌+◌, ◌*◌, ◌<◌, ◌≤◌, unsigned_abs, IsTrue, IsFalse, ◌↔◌, List, filter, flat_map, sum_by, Contains}
 use Rattle.std.specs.List.{IsDistinct, list_any}
 use Rattle.std.specs.List.Sorted.{IsStrictlySortedBy}
 use Rattle.std.specs.declared.cmp.Ordering.{Ordering}
@@ -11,7 +11,7 @@ use Rattle.grid_core.specs.declared.pixel_box.PixelBox.{PixelBox}
 use Rattle.grid_core.specs.declared.tile.TileId.{TileId}
 use Rattle.grid_core.specs.Name.{Label, label_cmp}
 use Rattle.grid_core.specs.Profile.{Sizes}
-use Rattle.grid_core.specs.Segment.{Segment}
+use Rattle.grid_core.specs.Segment.{Segment, IsSegment}
 use Rattle.grid_core.specs.LiveList.{names, with_segment, without_name}
 use Rattle.grid_core.specs.Meets.{meets_pixel_of}
 use Rattle.grid_core.specs.Rounding.{along_cmp, route}
@@ -39,6 +39,15 @@ pub record TilesAreMet (pr : Sizes) (s : Segment) : Type 0 where
 -- a pixel that s meets lies in a tile that s meets
 abbrev pub PixelsLieInMetTiles : Sizes → Segment → Type 0
 PixelsLieInMetTiles pr s = (h : Point) → IsTrue (meets_pixel_of s h) → IsTrue (meets_tile pr (tile_of pr h) s)
+
+-- the column and the row of the tile are at most 16,384 in size
+pub record IsTileInReach (t : TileId) : Type 0 where
+  pub column : unsigned_abs t.i ≤ 16384
+  pub row : unsigned_abs t.j ≤ 16384
+
+-- a segment within the profile's bound meets only tiles in reach
+abbrev pub MetTilesAreInReach : Sizes → Segment → Type 0
+MetTilesAreInReach pr s = IsSegment pr.bound s → (t : TileId) → IsTrue (meets_tile pr t s) → IsTileInReach t
 
 -- by x, and at one x by y, upwards, or downwards where the segment falls
 abbrev pub place_cmp : Segment → Point → Point → Ordering

@@ -7,7 +7,7 @@
 
 #![tactic(auto)]
 
-ghost use Rattle.tile_law.specs.Laws.{TilesAreMet, PixelsLieInMetTiles, PixelsStandByPlace};
+ghost use Rattle.tile_law.specs.Laws.{TilesAreMet, PixelsLieInMetTiles, MetTilesAreInReach, PixelsStandByPlace};
 ghost use Rattle.tile_law.specs.Laws.{PartsAreLocal, RouteIsJoined, PassesAddUp, EditsAreLocal};
 
 use grid_core::{Profile, Ur};
@@ -24,6 +24,14 @@ pub fn tiles_are_met(profile: &Profile, s: &Ur)
 /// A pixel that `s` meets lies in a tile that `s` meets.
 pub fn pixels_lie_in_met_tiles(profile: &Profile, s: &Ur)
     ensures { PixelsLieInMetTiles profile.now s.now }
+{
+    profile.side();
+}
+
+/// A segment within the profile's bound meets no tile whose column or row is greater than 16,384 in
+/// size.
+pub fn met_tiles_are_in_reach(profile: &Profile, s: &Ur)
+    ensures { MetTilesAreInReach profile.now s.now }
 {
     profile.side();
 }
