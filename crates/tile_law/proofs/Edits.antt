@@ -4,6 +4,7 @@
 
 use Rattle.std.proofs.Common.{◌≡◌, refl, ap, sym, subst, ◌∙◌, IsTrue, true, false, cond, not, true≢false, arith, ⊎_elim}
 use Rattle.std.proofs.Common.{List, [], ◌∷◌, ◌++◌, map, filter, Contains, Ordering, Less, Equal, Greater, is_lt}
+use Rattle.std.specs.Prelude.{◌<◌}
 use Rattle.std.specs.Cmp.{IsTotalOrder}
 use Rattle.std.specs.List.{AllByRecursion, list_any}
 use Rattle.std.specs.List.Sorted.{IsStrictlySortedBy}
@@ -15,13 +16,14 @@ use Rattle.grid_core.specs.Name.{Label, label_cmp, label_eq}
 use Rattle.grid_core.specs.LiveList.{names, with_segment, without_name}
 use Rattle.grid_core.specs.Profile.{Sizes}
 use Rattle.grid_core.specs.Segment.{Segment}
-use Rattle.grid_core.specs.Tiles.{meets_tile, near}
+use Rattle.grid_core.specs.Tiles.{meets_tile, near, part_of}
 use Rattle.grid_core.proofs.Comparisons.{label_decides}
 use Rattle.grid_core.proofs.Filters.{filter_swapped, none_kept, every_kept}
 use Rattle.grid_core.proofs.ListMembers.{contains_cases, contains_filter, contains_map, sorted_filter}
 use Rattle.grid_core.proofs.Order.{label_total, label_exact}
 use Rattle.grid_core.proofs.RisingMembers.{any_iff}
-use Rattle.tile_law.specs.Laws.{IsFar, EditsAreLocal}
+use Rattle.tile_law.specs.Laws.{IsFar, EditsAreLocal, PartsAfterEdits}
+use Rattle.tile_law.proofs.Locality.{part_by_near}
 use Rattle.tile_law.proofs.RouteTiles.{one_of_key}
 use Rattle.tile_law.proofs.Kept.{filter_twice}
 use Rattle.tile_law.proofs.TileSums.{all_contained}
@@ -196,3 +198,16 @@ edits_are_local pr ss =
       taken_out = λ t name. near_without pr t ss name;
       taken_out_far = λ t name far. near_without_far pr t ss name far;
     }
+
+pub parts_after_edits : (pr : Sizes) → 0 < pr.side → (ss : List Segment) → PartsAfterEdits pr ss
+parts_after_edits pr some ss =
+    record {
+      put_in = λ t s. by_near t (with_segment ss s) (with_segment (near pr t ss) s) (near_with pr t ss s);
+      put_in_far = λ t s sorted miss far. by_near t (with_segment ss s) ss (near_with_far pr t ss s sorted miss far);
+      taken_out = λ t name. by_near t (without_name ss name) (without_name (near pr t ss) name)
+          (near_without_same pr t ss (near pr t ss) name (sym (filter_twice (meets_tile pr t) ss)));
+      taken_out_far = λ t name far. by_near t (without_name ss name) ss (near_without_far pr t ss name far);
+    }
+  where
+    by_near : (t : TileId) (us vs : List Segment) → near pr t us ≡ near pr t vs → part_of pr t us ≡ part_of pr t vs
+    by_near t us vs e = part_by_near pr some t us vs e

@@ -1,11 +1,11 @@
 -- The laws of tiles, for every profile, segment and list of segments.
-use Rattle.std.specs.Prelude.{◌≡◌, ℕ, ◌+◌, ◌*◌, ◌<◌, ◌≤◌, unsigned_abs, IsTrue, IsFalse, ◌↔◌, List, filter, flat_map, sum_by, Contains}
+use Rattle.std.specs.Prelude.{◌≡◌, ◌↔◌, ℕ, ◌+◌, ◌*◌, ◌<◌, ◌≤◌, unsigned_abs, IsTrue, IsFalse}
+use Rattle.std.specs.Prelude.{if◌then◌else◌, List, filter, flat_map, sum_by, Contains}
 use Rattle.std.specs.List.{IsDistinct, list_any}
 use Rattle.std.specs.List.Sorted.{IsStrictlySortedBy}
 use Rattle.std.specs.declared.cmp.Ordering.{Ordering}
 use Rattle.std.specs.declared.cmp.Ordering.TheVariants.{Less}
 use Rattle.std.specs.Ordering.{int_cmp, ordering_then}
-use Rattle.std.specs.Prelude.{if◌then◌else◌}
 use Rattle.grid_core.specs.declared.point.Point.{Point}
 use Rattle.grid_core.specs.declared.pixel_box.PixelBox.{PixelBox}
 use Rattle.grid_core.specs.declared.tile.TileId.{TileId}
@@ -102,7 +102,7 @@ abbrev pub IsFar : Sizes → TileId → List Segment → Label → Type 0
 IsFar pr t ss name = (u : Segment) → Contains ss u → u.name ≡ name → IsFalse (meets_tile pr t u)
 
 -- what is near a tile after an edit is made by what was near before; an edit with a segment that
--- doesn't meet the tile leaves what is near, and so the part
+-- doesn't meet the tile leaves what is near
 pub record EditsAreLocal (pr : Sizes) (ss : List Segment) : Type 0 where
   pub put_in : (t : TileId) (s : Segment)
       → near pr t (with_segment ss s) ≡ near pr t (with_segment (near pr t ss) s)
@@ -119,3 +119,19 @@ pub record EditsAreLocal (pr : Sizes) (ss : List Segment) : Type 0 where
   pub taken_out_far : (t : TileId) (name : Label)
       → IsFar pr t ss name
       → near pr t (without_name ss name) ≡ near pr t ss
+
+-- the part in a tile after an edit is made by what was near the tile before; an edit with a segment
+-- that doesn't meet the tile leaves the part
+pub record PartsAfterEdits (pr : Sizes) (ss : List Segment) : Type 0 where
+  pub put_in : (t : TileId) (s : Segment)
+      → part_of pr t (with_segment ss s) ≡ part_of pr t (with_segment (near pr t ss) s)
+  pub put_in_far : (t : TileId) (s : Segment)
+      → IsStrictlySortedBy label_cmp (names ss)
+      → IsFalse (meets_tile pr t s)
+      → IsFar pr t ss s.name
+      → part_of pr t (with_segment ss s) ≡ part_of pr t ss
+  pub taken_out : (t : TileId) (name : Label)
+      → part_of pr t (without_name ss name) ≡ part_of pr t (without_name (near pr t ss) name)
+  pub taken_out_far : (t : TileId) (name : Label)
+      → IsFar pr t ss name
+      → part_of pr t (without_name ss name) ≡ part_of pr t ss

@@ -7,8 +7,9 @@
 
 #![tactic(auto)]
 
-ghost use Rattle.tile_law.specs.Laws.{TilesAreMet, PixelsLieInMetTiles, MetTilesAreInReach, PixelsStandByPlace};
-ghost use Rattle.tile_law.specs.Laws.{PartsAreLocal, RouteIsJoined, PassesAddUp, EditsAreLocal};
+ghost use Rattle.tile_law.specs.Laws.{TilesAreMet, PixelsLieInMetTiles, MetTilesAreInReach};
+ghost use Rattle.tile_law.specs.Laws.{PixelsStandByPlace, PartsAreLocal, RouteIsJoined};
+ghost use Rattle.tile_law.specs.Laws.{PassesAddUp, EditsAreLocal, PartsAfterEdits};
 
 use grid_core::{Profile, Ur};
 
@@ -74,3 +75,11 @@ pub fn passes_add_up(profile: &Profile, segments: &[Ur])
 pub fn edits_are_local(profile: &Profile, segments: &[Ur])
     ensures { EditsAreLocal profile.now segments.now }
 {}
+
+/// The part in a tile after an edit is made by the segments near the tile before. An edit with a
+/// segment that doesn't meet the tile leaves it as it was.
+pub fn parts_after_edits(profile: &Profile, segments: &[Ur])
+    ensures { PartsAfterEdits profile.now segments.now }
+{
+    profile.side();
+}
