@@ -9,3 +9,6 @@ pub mod RouteTiles
 pub mod TileSums
 pub mod Edits
 pub mod WorkedCorner
+pub mod OneMoreCounts
+pub mod OneMore
+pub mod OneLess
