@@ -8,7 +8,7 @@ use Rattle.std.specs.Map.{lookup, values_of}
 use Rattle.std.specs.BTreeMap.{is_at, insert_entry}
 use Rattle.std.proofs.lemmas.Cmp.{eq_by_cmp_equiv}
 use Rattle.std.proofs.lemmas.List.{append-nil, take_more}
-use Rattle.std.proofs.lemmas.List.Sums.{sum_by-cons, sum_by_push, count_by-le-length}
+use Rattle.std.proofs.lemmas.List.Sums.{sum_by_push, count_by-le-length}
 use Rattle.grid_core.specs.declared.point.Point.{Point}
 use Rattle.grid_core.specs.declared.point.Vertex.{Vertex}
 use Rattle.grid_core.specs.Vector.{point_cmp, point_eq}
@@ -16,24 +16,13 @@ use Rattle.grid_core.specs.RisingSet.{rising}
 use Rattle.grid_core.proofs.Order.{point_total, point_exact, point_same}
 use Rattle.round_plain.specs.HotPixels.{tally, no_tally, tallies}
 use Rattle.grid_core.proofs.RisingMembers.{sorted_rising, any_rising}
-use Rattle.round_plain.proofs.Sets.{rising_push, All-rising}
-use Rattle.round_plain.proofs.Tables.{table, lookup-table, insert_entry-table}
+use Rattle.grid_core.proofs.Filters.{count_none}
+use Rattle.grid_core.proofs.RisingSets.{rising_push, All-rising}
+use Rattle.grid_core.proofs.Tables.{table, lookup-table, insert_entry-table}
 
 -- the map from the pixels of both lists to their counts
 abbrev pub counts : List Point → List Point → List (Point × Vertex)
 counts es cs = table (tally es cs) (rising point_cmp (es ++ cs))
-
--- nothing is counted where nothing passes
-pub count_by-none : {X : Type 0} (p : X → Bool) (xs : List X) → list_any p xs ≡ false
-    → count_by p xs ≡ 0
-count_by-none p [] h = refl
-count_by-none {X} p (x ∷ xs) h = sum_by-cons (λ y. cond (p y) 1 0) x xs
-    ∙ by (count_by-none p xs) (p x) h
-  where
-    by : (list_any p xs ≡ false → count_by p xs ≡ 0) → (b : Bool) → (b || list_any p xs) ≡ false
-        → cond b 1 0 + count_by p xs ≡ 0
-    by ih true h = cc
-    by ih false h = omega (arith, ih h)
 
 list_any-front : {X : Type 0} (p : X → Bool) (xs ys : List X) → list_any p (xs ++ ys) ≡ false
     → list_any p xs ≡ false
@@ -70,8 +59,8 @@ found-counts es cs h =
         let none = sym (any_rising point_total h (es ++ cs)) ∙ e in
         λ i. record {
           at = h;
-          ends = sym (count_by-none (point_eq h) es (list_any-front (point_eq h) es cs none)) i;
-          crossings = sym (count_by-none (point_eq h) cs (list_any-back (point_eq h) es cs none)) i;
+          ends = sym (count_none (point_eq h) es (list_any-front (point_eq h) es cs none)) i;
+          crossings = sym (count_none (point_eq h) cs (list_any-back (point_eq h) es cs none)) i;
         }
 
 -- one more at h counts at h

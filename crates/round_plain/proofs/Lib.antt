@@ -1,5 +1,3 @@
-pub mod Sets
-pub mod Tables
 pub mod Counts
 pub mod Pairs
 pub mod Steps

@@ -1,40 +1,15 @@
 -- The crossings of all pairs, one segment after another.
-use Rattle.std.proofs.Common.{◌≡◌, refl, ap, sym, ◌∙◌, ℕ, ◌+◌, ◌*◌, ◌<◌, ◌≤◌, List, [], ◌∷◌, ◌++◌, length, take, drop, get_or, append_assoc, suc, add-one, arith, length-append, length-drop, ◌-◌, ◌^◌}
+use Rattle.std.proofs.Common.{◌≡◌, refl, ap, sym, ◌∙◌, ℕ, ◌+◌, ◌*◌, ◌<◌, ◌≤◌, List, [], ◌∷◌, ◌++◌, length, take, drop, get_or, append_assoc, suc, add-one, arith, length-append, ◌-◌, ◌^◌}
 use Rattle.std.specs.Prelude.{Option, Some, None, filter_map}
 use Rattle.std.specs.List.{cons_option}
 use Rattle.std.proofs.Math.Seq.{drop-cons}
 use Rattle.std.proofs.lemmas.Nat.{mul-le}
 use Rattle.std.proofs.lemmas.List.Concat.{flat_map-cons}
 use Rattle.std.proofs.lemmas.Grind.{flat_map-append}
-use Rattle.std.proofs.lemmas.List.{append-nil, take_more, take_all, drop_all}
-use Rattle.std.proofs.lemmas.List.Elements.{filter_map-append}
+use Rattle.std.proofs.lemmas.List.{append-nil, take_more, drop_all}
 use Rattle.grid_core.specs.declared.point.Point.{Point}
 use Rattle.grid_core.specs.Segment.{Segment}
 use Rattle.grid_core.specs.Rounding.{end_points, crossing_pixel, crossing_pixels}
-
-module _ {A B : Type 0} (f : A → Option B) (base : List B) (xs : List A) (i : ℕ) (x : A) where
-  one_more : i < length xs → x ≡ get_or xs i x
-      → filter_map f (take (i + 1) xs) ≡ filter_map f (take i xs) ++ filter_map f (x ∷ [])
-  one_more h e =
-      ap (filter_map f) (take_more xs i x h ∙ ap (λ (y : A). take i xs ++ y ∷ []) (sym e))
-      ∙ filter_map-append f (take i xs) (x ∷ [])
-
-  -- what is found is appended
-  pub found_some : (y : B) → i < length xs → x ≡ get_or xs i x → Some y ≡ f x
-      → (base ++ filter_map f (take i xs)) ++ y ∷ [] ≡ base ++ filter_map f (take (i + 1) xs)
-  found_some y h e s =
-      append_assoc base (filter_map f (take i xs)) (y ∷ [])
-      ∙ ap (λ (ys : List B). base ++ ys)
-      (ap (λ (o : Option B). filter_map f (take i xs) ++ cons_option o []) s ∙ sym (one_more h e))
-
-  -- where nothing is found nothing is appended
-  pub found_none : i < length xs → x ≡ get_or xs i x → None ≡ f x
-      → base ++ filter_map f (take i xs) ≡ base ++ filter_map f (take (i + 1) xs)
-  found_none h e s =
-      ap (λ (ys : List B). base ++ ys)
-      (sym (append-nil (filter_map f (take i xs)))
-      ∙ ap (λ (o : Option B). filter_map f (take i xs) ++ cons_option o []) s
-      ∙ sym (one_more h e))
 
 crossings_here : (s : Segment) (ss : List Segment)
     → crossing_pixels (s ∷ ss) ≡ filter_map (crossing_pixel s) ss ++ crossing_pixels ss
@@ -66,10 +41,6 @@ unfolding crossing_pixels
 crossings_done found total ss i h all =
     sym (append-nil found) ∙ ap (λ (xs : List Segment). found ++ crossing_pixels xs)
     (sym (drop_all i ss h)) ∙ all
-
--- a part that ends where the list ends
-pub drop_whole : {A : Type 0} (i : ℕ) (xs : List A) → take (length xs - i) (drop i xs) ≡ drop i xs
-drop_whole i xs = take_all (length xs - i) (drop i xs) (omega (arith, length-drop i xs))
 
 -- two ends a segment
 pub length-end_points : (ss : List Segment) → length (end_points ss) ≡ 2 * length ss

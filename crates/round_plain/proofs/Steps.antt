@@ -1,10 +1,10 @@
 -- Steps along a segment: sorting them sorts their pixels.
-use Rattle.std.proofs.Common.{◌≡◌, refl, ap, sym, ◌∙◌, ◌+◌, ◌<◌, ℕ, Bool, true, false, cond, Ordering, Less, Equal, Greater, List, [], ◌∷◌, ◌++◌, map, fold, length, take, get_or}
+use Rattle.std.proofs.Common.{◌≡◌, refl, ap, sym, ◌∙◌, ◌+◌, ◌<◌, ℕ, Bool, true, false, cond, Ordering, List, [], ◌∷◌, ◌++◌, map, length, take, get_or}
 use Rattle.std.specs.Prelude.{pos}
 use Rattle.std.specs.List.{filter}
 use Rattle.std.proofs.lemmas.List.{append-nil, map-append, take_more}
 use Rattle.std.proofs.lemmas.List.Elements.{filter-append}
-use Rattle.std.specs.Ordering.{match_ordering, int_cmp, ordering_then}
+use Rattle.std.specs.Ordering.{int_cmp, ordering_then}
 use Rattle.std.specs.BTreeSet.{insert_key}
 use Rattle.grid_core.specs.declared.point.Point.{Point}
 use Rattle.grid_core.specs.declared.point.Vertex.{Vertex}
@@ -16,38 +16,11 @@ use Rattle.grid_core.proofs.RouteOrder.{along_and_pixel_cmp, rising_by_product}
 use Rattle.grid_core.specs.RisingSet.{rising}
 use Rattle.round_plain.specs.declared.routes.Step.{Step}
 use Rattle.round_plain.specs.Routes.{pixels, step_along}
-use Rattle.round_plain.proofs.Sets.{rising_push}
+use Rattle.grid_core.proofs.RisingSets.{rising_push, rising-map}
 
 -- by product, and at one product by pixel
 abbrev pub step_cmp : Step → Step → Ordering
 step_cmp a b = ordering_then (int_cmp a.product b.product) (point_cmp a.pixel b.pixel)
-
-module _ {A B : Type 0} (R : B → B → Ordering) (f : A → B) where
-  insert_key-map : (x : A) (xs : List A)
-      → insert_key R (map f xs) (f x) ≡ map f (insert_key (λ a b. R (f a) (f b)) xs x)
-  insert_key-map x [] = refl
-  insert_key-map x (y ∷ ys) = by (R (f x) (f y)) (insert_key-map x ys)
-    where
-      by : (r : Ordering) → insert_key R (map f ys) (f x)
-          ≡ map f (insert_key (λ a b. R (f a) (f b)) ys x)
-          → match_ordering r (f x ∷ f y ∷ map f ys) (f y ∷ map f ys)
-          (f y ∷ insert_key R (map f ys) (f x))
-          ≡ map f (match_ordering r (x ∷ y ∷ ys) (y ∷ ys)
-          (y ∷ insert_key (λ a b. R (f a) (f b)) ys x))
-      by Less h = refl
-      by Equal h = refl
-      by Greater h = ap (λ (bs : List B). f y ∷ bs) h
-
-  -- a set of images is the image of the set in the order of the images
-  pub rising-map : (xs : List A) → rising R (map f xs) ≡ map f (rising (λ a b. R (f a) (f b)) xs)
-  rising-map xs = after [] xs
-    where
-      after : (acc xs : List A) → fold (insert_key R) (map f acc) (map f xs)
-          ≡ map f (fold (insert_key (λ a b. R (f a) (f b))) acc xs)
-      after acc [] = refl
-      after acc (x ∷ xs) =
-          ap (λ (bs : List B). fold (insert_key R) bs (map f xs)) (insert_key-map x acc)
-          ∙ after (insert_key (λ a b. R (f a) (f b)) acc x) xs
 
 pixels-steps : (s : Segment) (hs : List Point)
     → map (λ (a : Step). a.pixel) (map (step_along s) hs) ≡ hs

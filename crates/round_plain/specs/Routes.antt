@@ -21,6 +21,7 @@ route_among hs s = rising (along_cmp s) (filter (meets_pixel_of s) hs)
 abbrev pub routes_among : List Point → List Segment → List RoutedSegment
 routes_among hs ss = map (λ s. record { ur = s; points = route_among hs s }) ss
 
--- pixel h as a step along s: with the product of its centre with the direction
+-- private, as the code sorts: pixel h as a step along s, with the product of its centre with the
+-- direction
 abbrev pub step_along : Segment → Point → Step
 step_along s h = record { product = dot_of h (direction s); pixel = h }

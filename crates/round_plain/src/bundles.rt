@@ -3,7 +3,7 @@
 ghost use Rattle.std.specs.Prelude.{◌≡◌, ◌++◌, ◌∷◌, [], All, fold, IfOk, OnOk};
 ghost use Rattle.std.specs.List.{IsDistinct};
 ghost use Rattle.grid_core.specs.Vector.{point_eq};
-ghost use Rattle.round_plain.specs.Bundles.{bundles, passes, passes_of, with_pass};
+ghost use Rattle.round_plain.specs.Bundles.{bundles, named_edges, named_edges_of, with_named_edge};
 
 use crate::{Bundled, Names, Routed};
 use grid_core::{Edge, Memory, Name};
@@ -14,7 +14,7 @@ use std::collections::BTreeMap;
 /// No route has a point twice.
 pub(crate) fn bundles(alloc: Global, routes: &[Routed]) -> Result<Vec<Bundled>, Memory>
     requires { All (λ r. IsDistinct point_eq r.points) routes.now }
-    ensures { IfOk result (λ bs. bs.items ≡ bundles (passes routes.now)) }
+    ensures { IfOk result (λ bs. bs.items ≡ bundles (named_edges routes.now)) }
 {
     let mut gathered = BTreeMap::new(alloc);
     for route in routes {
@@ -35,25 +35,25 @@ fn add_route(
 ) -> Result<(), Memory>
     requires { IsDistinct point_eq route.now.points }
     ensures { OnOk result
-        (gathered.new.entries ≡ fold with_pass gathered.old.entries (passes_of route.now)) }
+        (gathered.new.entries ≡ fold with_named_edge gathered.old.entries (named_edges_of route.now)) }
 {
     let name = route.ur.name();
     let points = route.points.as_slice();
     for i in 1..points.len() {
         let edge = Edge::of(points[i - 1], points[i]).unwrap();
-        add_pass(alloc, gathered, edge, name)?;
+        add_name(alloc, gathered, edge, name)?;
     }
     Ok(())
 }
 
 /// Adds the name to the edge.
-fn add_pass(
+fn add_name(
     alloc: Global,
     gathered: &mut BTreeMap<Edge, Names>,
     edge: Edge,
     name: Name,
 ) -> Result<(), Memory>
-    ensures { OnOk result (gathered.new.entries ≡ with_pass gathered.old.entries (edge, name)) }
+    ensures { OnOk result (gathered.new.entries ≡ with_named_edge gathered.old.entries (edge, name)) }
 {
     match gathered.get_mut(&edge) {
         Some(names) => names.push(name),

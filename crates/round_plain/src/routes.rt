@@ -10,7 +10,7 @@ use pixel_test::meets_pixel;
 use std::alloc::Global;
 use std::collections::BTreeSet;
 
-/// A pixel with its place along a segment, the product of its centre with the segment's direction.
+/// A pixel with how far along a segment it is: the product of its centre with the direction.
 #[derive(Clone, Copy, PartialEq, Eq, PartialOrd, Ord)]
 struct Step {
     product: i128,

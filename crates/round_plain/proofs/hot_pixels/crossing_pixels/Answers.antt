@@ -5,7 +5,8 @@ use Rattle.std.proofs.lemmas.List.Elements.{All-take, All-drop}
 use Rattle.grid_core.specs.declared.point.Point.{Point}
 use Rattle.grid_core.specs.Segment.{Segment, IsSegment}
 use Rattle.grid_core.specs.Rounding.{crossing_pixel, crossing_pixels}
-use Rattle.round_plain.proofs.Pairs.{crossings_more, crossings_done, drop_whole}
+use Rattle.grid_core.proofs.ListSteps.{drop_whole}
+use Rattle.round_plain.proofs.Pairs.{crossings_more, crossings_done}
 use Rattle.round_plain.proofs.hot_pixels.crossing_pixels.Goals as goal
 
 pub push_crossings-requires-clause-first : goal.push_crossings-requires-clause-first

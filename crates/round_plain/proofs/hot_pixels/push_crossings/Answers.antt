@@ -8,7 +8,7 @@ use Rattle.grid_core.specs.declared.point.Point.{Point}
 use Rattle.grid_core.specs.Vector.{IsWithin}
 use Rattle.grid_core.specs.Segment.{Segment, IsSegment}
 use Rattle.grid_core.specs.Rounding.{crossing_pixel}
-use Rattle.round_plain.proofs.Pairs.{found_some, found_none}
+use Rattle.grid_core.proofs.ListSteps.{found_some, found_none}
 use Rattle.round_plain.proofs.hot_pixels.push_crossings.Goals as goal
 use Rattle.round_plain.proofs.hot_pixels.push_crossings.Goals.{in-Some+in_ok-push, in_default}
 

@@ -5,7 +5,7 @@ use Rattle.grid_core.specs.declared.point.Vertex.{Vertex}
 use Rattle.grid_core.specs.Vector.{point_eq}
 use Rattle.grid_core.specs.Rounding.{RoutedSegment}
 use Rattle.round_plain.specs.Routes.{pixels, routes_among}
-use Rattle.round_plain.specs.Bundles.{passes, bundles}
+use Rattle.round_plain.specs.Bundles.{named_edges, bundles}
 use Rattle.round_plain.proofs.Rounded.{routes_distinct, rounded}
 use Rattle.round_plain.proofs.rounding.round.Goals as goal
 
@@ -22,6 +22,6 @@ returns c =
     c.in_ok-vertices.ensures.value
     (c.in_ok-routes.ensures ∙ ap (λ (vs : List Vertex). routes_among
     (pixels vs) c.args.segments.now) c.deref.ensures.value)
-    (c.in_ok-edges.ensures ∙ ap (λ (rs : List RoutedSegment). bundles (passes rs))
+    (c.in_ok-edges.ensures ∙ ap (λ (rs : List RoutedSegment). bundles (named_edges rs))
     c.deref-2.ensures.value)
     c.of_parts.ensures
