@@ -21,8 +21,8 @@ const MOST_THREADS: u32 = 64;
 
 /// Takes `rounds` turns.
 fn take_turns<R: Wait>(rt: &R, turn: &Turn<Counter>, pass: &mut Pass<Counter>, rounds: u32)
-    requires { IsReady pass.old.place (turn_id turn.now) }
-    ensures { IsReady pass.new.place (turn_id turn.now) }
+    requires { IsReady pass.old.seat (turn_id turn.now) }
+    ensures { IsReady pass.new.seat (turn_id turn.now) }
 {
     for _round in 0..rounds {
         let mut held = turn.enter(rt, pass);
@@ -39,11 +39,11 @@ fn split_off(
     first: &mut Pass<Counter>,
     count: u32,
 ) -> Result<Vec<Pass<Counter>>, Memory>
-    requires ready { IsReady first.old.place (turn_id turn.now) }
-    requires room { count ≤ (known first.old.place).room }
-    ensures ready { IsReady first.new.place (turn_id turn.now) }
+    requires ready { IsReady first.old.seat (turn_id turn.now) }
+    requires room { count ≤ (known first.old.seat).room }
+    ensures ready { IsReady first.new.seat (turn_id turn.now) }
     ensures each { IfOk result (λ v. (i : ℕ) (d : _) → i < vec_len v →
-        IsReady (slice_index_or v.items i d).place (turn_id turn.now)) }
+        IsReady (slice_index_or v.items i d).seat (turn_id turn.now)) }
 {
     let mut passes = Vec::new(alloc);
     for _split in 0..count {
@@ -60,13 +60,13 @@ fn run_all<R: Threads + Wait + Sync>(
     rounds: u32,
 ) -> Result<(), Memory>
     requires { (i : ℕ) (d : _) → i < vec_len passes →
-        IsReady (slice_index_or passes.items i d).place (turn_id turn.now) }
+        IsReady (slice_index_or passes.items i d).seat (turn_id turn.now) }
 {
     thread::map_vec(
         rt,
         passes,
         &|mut pass: Pass<Counter>| -> ()
-            requires { IsReady pass.place (turn_id turn.now) }
+            requires { IsReady pass.seat (turn_id turn.now) }
         { take_turns(rt, turn, &mut pass, rounds) },
     )?;
     Ok(())

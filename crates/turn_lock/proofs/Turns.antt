@@ -189,7 +189,7 @@ module _ {B E : Type 0} (history : B → List E) (author : List ℤ → E → �
   pub marks_history : (slots id : ℕ) (me : Me (Option B) (View E)) (t k : ℕ) (up : Bool) (es : List E)
       → me.0.stage ≡ Has t → k ≡ cond up 1 0 → GrowsBy (author me.0.label) me.0.number up me.0.journal es
       → length es < 2 ^ 32
-      → Allows Rule slots id me 2 (λ x. (x + k) % 2 ^ 64) (marks es (step slots 2 k 0 none) me)
+      → Allows Rule slots id me 2 (λ x. (x + k) % 2 ^ 64) (marks author es (step slots 2 k 0 none) me)
   marks_history slots id me t k up es is by grows short s r deep at fits =
       let v : View E = me.0 in
       let w : View E = marked (Marked t) es v in
@@ -231,7 +231,13 @@ module _ {B E : Type 0} (history : B → List E) (author : List ℤ → E → �
             r.roomer id up g knows.not_over j u other
             (λ b. other (holder_is r.owner r.served r.drawn r.away j u.stage b (r.stands j u at')
             ∙ mine)) (r.knows j u at' live)),
-        λ t' is'. ap (λ (x : ℕ). (marked (Marked x) es v, me.1)) (same t' is'),
+        λ t' is'. (
+          ap (λ (x : ℕ). (marked (Marked x) es v, me.1)) (same t' is'),
+          subst (λ (p : List ℤ × ℕ). calls (author p.0) p.1 es ≡ v.mine ++ drop (length v.journal) es)
+              (λ i. (sym knows.label_is i, sym knows.number_is i))
+              (own_mark (author label) seats label r.journal es r.over r.room r.roomer id up g v
+              (Marked t) journal_is knows).calls_are,
+        ),
       )
 
   pub gives_back : (slots id : ℕ) (me : Me (Option B) (View E)) (t : ℕ) (b : B) → me.0.stage ≡ Marked t

@@ -37,9 +37,11 @@ module _ {B E : Type 0} where
       × (calls (author m.0.label) m.0.number (history b) ≡ m.0.mine) × (label b ≡ m.0.label)
 
   -- a pass that has the book has seen the history `list`, and its own entries have grown by the new
-  -- ones
-  abbrev pub marks : List E → At B → Known B E → ℕ → Known B E → Type 0
-  marks list st m found m' = (t : ℕ) → m.0.stage ≡ Has t → m' ≡ (marked (Marked t) list m.0, m.1)
+  -- ones: they are those that name the pass
+  abbrev pub marks : (List ℤ → E → ℕ) → List E → At B → Known B E → ℕ → Known B E → Type 0
+  marks author list st m found m' = (t : ℕ) → m.0.stage ≡ Has t
+      → (m' ≡ (marked (Marked t) list m.0, m.1))
+      × (calls (author m.0.label) m.0.number list ≡ (marked (Marked t) list m.0).mine)
 
   -- the book is at home
   abbrev pub gave_back : At B → Known B E → ℕ → Known B E → Type 0

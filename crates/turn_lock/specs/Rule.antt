@@ -1,6 +1,6 @@
 -- The rule of a turn, which holds between any two steps.
 -- It has five parts: tickets, turn, journal, calls and numbers.
--- The number of a pass is the place of its view among all views, since a new view goes to the end.
+-- The number of a pass is the index of its view among all views, since a new view goes to the end.
 use Rattle.std.specs.Prelude.{◌≡◌, ℕ, ◌+◌, ◌%◌, ◌^◌, ◌<◌, ◌≤◌, List, [], ◌∷◌, ℤ, length, sum_by}
 use Rattle.std.specs.Prelude.{Bool, true, false, Option, Some}
 use mathlib.Core.Option.{none, some}

@@ -43,7 +43,7 @@ mod view;
 
 pub use counted::Counted;
 pub use pass::Pass;
-pub use rule::{Opening, Place, Rules, Words};
+pub use rule::{Opening, PassSeat, Rules, Words};
 pub use stage::Stage;
 pub use turn::{Held, Turn};
 pub use view::View;

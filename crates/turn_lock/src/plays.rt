@@ -31,28 +31,28 @@ impl<B: Counted> Play<Option<B>, View<B::Entry>> for Take {
     ghost then = { took B.history B.author B.label };
 }
 
-/// The history that a mark tells, for the proof alone: a step on a word carries no list.
-pub(crate) trait Told<E> {
+/// The history that a mark is of, for the proof alone: a step on a word carries no list.
+pub(crate) trait MarkedHistory<E> {
     ghost use Rattle.std.specs.Prelude.{List};
 
     ghost list: { List E };
 }
 
-impl<E> Told<E> for Brand {
+impl<E> MarkedHistory<E> for Brand {
     ghost use Rattle.std.specs.Prelude.{[]};
 
     ghost list = { [] };
 }
 
-/// The step that marks the history which `W` tells.
+/// The step that marks the history of `W`.
 pub(crate) struct Mark<W> {
-    told: PhantomData<W>,
+    history: PhantomData<W>,
 }
 
-impl<B: Counted, W: Told<B::Entry>> Play<Option<B>, View<B::Entry>> for Mark<W> {
+impl<B: Counted, W: MarkedHistory<B::Entry>> Play<Option<B>, View<B::Entry>> for Mark<W> {
     ghost use Rattle.turn_lock.specs.Plays.{marks};
 
-    ghost then = { marks W.list };
+    ghost then = { marks B.author W.list };
 }
 
 /// The step that gives the book back.

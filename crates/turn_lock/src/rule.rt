@@ -49,4 +49,4 @@ pub type Words<B: Counted> = Table<Option<B>, View<B::Entry>, Opening<B>, Rules<
 pub(crate) type Top<B: Counted> = Shared<Option<B>, View<B::Entry>, Opening<B>, Rules<B>>;
 
 /// The seat of a lock pass at the words. It has no bytes.
-pub type Place<B: Counted> = Seat<Option<B>, View<B::Entry>>;
+pub type PassSeat<B: Counted> = Seat<Option<B>, View<B::Entry>>;

@@ -41,8 +41,8 @@ impl<B: Counted> Turn<B> {
     pub fn open(alloc: Global, book: B, seats: u32) -> Result<(Turn<B>, Pass<B>), Memory>
         requires seats { 1 ≤ seats }
         requires empty { B.history book ≡ [] }
-        ensures ready { IfOk result (λ t. IsReady t.1.place (turn_id t.0)) }
-        ensures first { IfOk result (λ t. known t.1.place ≡ first_view seats (B.label book)) }
+        ensures ready { IfOk result (λ t. IsReady t.1.seat (turn_id t.0)) }
+        ensures first { IfOk result (λ t. known t.1.seat ≡ first_view seats (B.label book)) }
     {
         let about = Opening {
             seats,
@@ -50,11 +50,11 @@ impl<B: Counted> Turn<B> {
         };
         let mut slots = Vec::with_capacity(alloc, 1)?;
         slots.push(Some(book))?;
-        let Ok((table, place)) = Table::new(alloc, &[0, 0, 0], slots, &about) else {
+        let Ok((table, seat)) = Table::new(alloc, &[0, 0, 0], slots, &about) else {
             return Err(Memory);
         };
         let pass = Pass {
-            place,
+            seat,
             seats,
             number: 0,
             room: seats - 1,
@@ -64,17 +64,17 @@ impl<B: Counted> Turn<B> {
 
     /// Waits until the turn of `pass` comes, and gives it the book.
     pub fn enter(&self, rt: &impl Wait, pass: &mut Pass<B>) -> Held<B>
-        requires { IsReady pass.old.place (turn_id self.now) }
-        ensures stays { Stays pass.old.place pass.new.place }
-        ensures holds { Holds pass.new.place (B.history result.book) }
-        ensures seen { IsPrefix (known pass.old.place).seen (B.history result.book) }
-        ensures mine { let v = known pass.old.place in
+        requires { IsReady pass.old.seat (turn_id self.now) }
+        ensures stays { Stays pass.old.seat pass.new.seat }
+        ensures holds { Holds pass.new.seat (B.history result.book) }
+        ensures seen { IsPrefix (known pass.old.seat).seen (B.history result.book) }
+        ensures mine { let v = known pass.old.seat in
             calls (B.author v.label) v.number (B.history result.book) ≡ v.mine }
-        ensures label { B.label result.book ≡ (known pass.old.place).label }
+        ensures label { B.label result.book ≡ (known pass.old.seat).label }
         ensures kept { result.kept.value ≡ result.book }
     {
-        wait_turn(rt, &self.table.shared, &mut pass.place);
-        let book = take_book(&self.table.shared, &mut pass.place);
+        wait_turn(rt, &self.table.shared, &mut pass.seat);
+        let book = take_book(&self.table.shared, &mut pass.seat);
         let kept = Snapshot::of(&book);
         Held { book, kept }
     }
@@ -82,50 +82,52 @@ impl<B: Counted> Turn<B> {
     /// Tells that the history has grown by one entry of `pass` where `up`, and that it is as it
     /// was where not. The pass has then seen all of it.
     pub fn mark(&self, pass: &mut Pass<B>, held: &mut Held<B>, up: bool)
-        requires own { pass.old.place.table_id ≡ turn_id self.now }
-        requires holds { Holds pass.old.place (B.history held.old.kept.value) }
-        requires grows { let v = known pass.old.place in
+        requires own { pass.old.seat.table_id ≡ turn_id self.now }
+        requires holds { Holds pass.old.seat (B.history held.old.kept.value) }
+        requires grows { let v = known pass.old.seat in
             let kept = B.history held.old.kept.value in
             GrowsBy (B.author v.label) v.number up kept (B.history held.old.book) }
-        ensures own { pass.new.place.table_id ≡ pass.old.place.table_id }
-        ensures holds { HoldsMarked pass.new.place (B.history held.new.kept.value) }
-        ensures seen { let v = known pass.new.place in
-            v ≡ marked v.stage (B.history held.old.book) (known pass.old.place) }
+        ensures own { pass.new.seat.table_id ≡ pass.old.seat.table_id }
+        ensures holds { HoldsMarked pass.new.seat (B.history held.new.kept.value) }
+        ensures seen { let v = known pass.new.seat in
+            v ≡ marked v.stage (B.history held.old.book) (known pass.old.seat) }
+        ensures mine { let v = known pass.new.seat in
+            calls (B.author v.label) v.number (B.history held.new.book) ≡ v.mine }
         ensures book { held.new.book ≡ held.old.book }
         ensures kept { held.new.kept.value ≡ held.old.book }
     {
-        mark_history::<B, Brand>(&self.table.shared, &mut pass.place, &held.book, up);
+        mark_history::<B, Brand>(&self.table.shared, &mut pass.seat, &held.book, up);
         held.kept = Snapshot::of(&held.book);
     }
 
     /// Gives the book back as it was at `mark`, and passes the turn on.
     pub fn leave(&self, pass: &mut Pass<B>, held: Held<B>)
-        requires own { pass.old.place.table_id ≡ turn_id self.now }
-        requires holds { HoldsMarked pass.old.place (B.history held.kept.value) }
+        requires own { pass.old.seat.table_id ≡ turn_id self.now }
+        requires holds { HoldsMarked pass.old.seat (B.history held.kept.value) }
         requires history { B.history held.book ≡ B.history held.kept.value }
-        requires label { B.label held.book ≡ (known pass.old.place).label }
-        ensures stays { Stays pass.old.place pass.new.place }
-        ensures idle { IsIdle pass.new.place }
+        requires label { B.label held.book ≡ (known pass.old.seat).label }
+        ensures stays { Stays pass.old.seat pass.new.seat }
+        ensures idle { IsIdle pass.new.seat }
     {
         let Held { book, kept: _ } = held;
-        give_back(&self.table.shared, &mut pass.place, book);
+        give_back(&self.table.shared, &mut pass.seat, book);
     }
 
     /// A new pass, which has seen what `pass` has, and has added nothing. `pass` must have room.
     pub fn split(&self, pass: &mut Pass<B>) -> Pass<B>
-        requires own { pass.old.place.table_id ≡ turn_id self.now }
-        requires room { 0 < (known pass.old.place).room }
-        ensures own { pass.new.place.table_id ≡ pass.old.place.table_id }
-        ensures room { pass.new.place.me
-            ≡ (lowered (known pass.old.place), taken pass.old.place) }
-        ensures ready { IsReady result.place (turn_id self.now) }
-        ensures new { known result.place ≡ split_from (known pass.old.place) }
+        requires own { pass.old.seat.table_id ≡ turn_id self.now }
+        requires room { 0 < (known pass.old.seat).room }
+        ensures own { pass.new.seat.table_id ≡ pass.old.seat.table_id }
+        ensures room { pass.new.seat.me
+            ≡ (lowered (known pass.old.seat), taken pass.old.seat) }
+        ensures ready { IsReady result.seat (turn_id self.now) }
+        ensures new { known result.seat ≡ split_from (known pass.old.seat) }
     {
-        let place = self.table.shared.split_seat::<SplitOff>(&mut pass.place);
+        let seat = self.table.shared.split_seat::<SplitOff>(&mut pass.seat);
         let number = pass.seats - pass.room;
         pass.room -= 1;
         Pass {
-            place,
+            seat,
             seats: pass.seats,
             number,
             room: 0,
@@ -135,38 +137,38 @@ impl<B: Counted> Turn<B> {
     /// Ends the pass `other`. `pass` has then seen what either had seen, and keeps the calls of
     /// `other` beside its own.
     pub fn join(&self, pass: &mut Pass<B>, other: Pass<B>)
-        requires ready { IsReady pass.old.place (turn_id self.now) }
-        requires other { IsReady other.place (turn_id self.now) }
-        ensures ready { IsReady pass.new.place (turn_id self.now) }
-        ensures joined { let v = known pass.old.place in
-            known pass.new.place ≡ joined v (known other.place) }
-        ensures seen { IsPrefix (known pass.old.place).seen (known pass.new.place).seen }
-        ensures seen_by_other { IsPrefix (known other.place).seen (known pass.new.place).seen }
+        requires ready { IsReady pass.old.seat (turn_id self.now) }
+        requires other { IsReady other.seat (turn_id self.now) }
+        ensures ready { IsReady pass.new.seat (turn_id self.now) }
+        ensures joined { let v = known pass.old.seat in
+            known pass.new.seat ≡ joined v (known other.seat) }
+        ensures seen { IsPrefix (known pass.old.seat).seen (known pass.new.seat).seen }
+        ensures seen_by_other { IsPrefix (known other.seat).seen (known pass.new.seat).seen }
     {
         let Pass {
-            place,
+            seat,
             seats: _,
             number: _,
             room,
         } = other;
-        unite(&self.table.shared, &mut pass.place, place);
+        unite(&self.table.shared, &mut pass.seat, seat);
         pass.room += room;
     }
 
     /// Ends the turn with the last pass, and gives the book.
     pub fn close(self, pass: Pass<B>) -> B
-        requires ready { IsReady pass.place (turn_id self) }
-        requires all { HasAll (known pass.place) }
-        ensures { IsLast B.history B.author B.label (known pass.place) result }
+        requires ready { IsReady pass.seat (turn_id self) }
+        requires all { HasAll (known pass.seat) }
+        ensures { IsLast B.history B.author B.label (known pass.seat) result }
     {
         let Turn { table } = self;
         let Pass {
-            place,
+            seat,
             seats: _,
             number: _,
             room: _,
         } = pass;
-        let mut closed = table.close_with(place);
+        let mut closed = table.close_with(seat);
         let book = closed.take(BOOK);
         closed.free();
         book.unwrap()

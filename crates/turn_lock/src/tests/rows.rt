@@ -12,9 +12,9 @@ use std::test::Fail;
 
 /// Adds one value in a turn of `pass`, and says whether it was added.
 pub(super) fn add<R: Wait>(rt: &R, turn: &Turn<Tally>, pass: &mut Pass<Tally>, value: u64) -> bool
-    requires { IsReady pass.old.place (turn_id turn.now) }
-    ensures idle { IsIdle pass.new.place }
-    ensures still { IsStill pass.old.place pass.new.place }
+    requires { IsReady pass.old.seat (turn_id turn.now) }
+    ensures idle { IsIdle pass.new.seat }
+    ensures still { IsStill pass.old.seat pass.new.seat }
 {
     let mut held = turn.enter(rt, pass);
     let added = held.book.add(pass.number(), value);
@@ -30,11 +30,11 @@ pub(super) fn look<R: Wait>(
     turn: &Turn<Tally>,
     pass: &mut Pass<Tally>,
 ) -> Result<Vec<(u32, u64)>, Memory>
-    requires { IsReady pass.old.place (turn_id turn.now) }
-    ensures idle { IsIdle pass.new.place }
-    ensures still { IsStill pass.old.place pass.new.place }
-    ensures mine { (known pass.new.place).mine ≡ (known pass.old.place).mine }
-    ensures seen { IfOk result (λ entries. entries.items ≡ (known pass.new.place).seen) }
+    requires { IsReady pass.old.seat (turn_id turn.now) }
+    ensures idle { IsIdle pass.new.seat }
+    ensures still { IsStill pass.old.seat pass.new.seat }
+    ensures mine { (known pass.new.seat).mine ≡ (known pass.old.seat).mine }
+    ensures seen { IfOk result (λ entries. entries.items ≡ (known pass.new.seat).seen) }
 {
     let mut held = turn.enter(rt, pass);
     turn.mark(pass, &mut held, false);
@@ -53,14 +53,14 @@ struct Split {
 }
 
 fn split_and_look<R: Wait>(rt: &R, alloc: Global) -> Result<Split, Memory>
-    ensures first { IfOk result (λ s. IsReady s.first.place (turn_id s.turn)) }
-    ensures second { IfOk result (λ s. IsReady s.second.place (turn_id s.turn)) }
-    ensures seats { IfOk result (λ s. (known s.first.place).seats ≡ 2) }
-    ensures numbers { IfOk result (λ s. ((known s.first.place).number ≡ 0)
-        × ((known s.second.place).number ≡ 1)) }
-    ensures room { IfOk result (λ s. (known s.first.place).room ≡ 0) }
-    ensures mine { IfOk result (λ s. (known s.first.place).mine ≡ []) }
-    ensures seen { IfOk result (λ s. (known s.first.place).seen ≡ s.seen.items) }
+    ensures first { IfOk result (λ s. IsReady s.first.seat (turn_id s.turn)) }
+    ensures second { IfOk result (λ s. IsReady s.second.seat (turn_id s.turn)) }
+    ensures seats { IfOk result (λ s. (known s.first.seat).seats ≡ 2) }
+    ensures numbers { IfOk result (λ s. ((known s.first.seat).number ≡ 0)
+        × ((known s.second.seat).number ≡ 1)) }
+    ensures room { IfOk result (λ s. (known s.first.seat).room ≡ 0) }
+    ensures mine { IfOk result (λ s. (known s.first.seat).mine ≡ []) }
+    ensures seen { IfOk result (λ s. (known s.first.seat).seen ≡ s.seen.items) }
 {
     let (turn, mut first) = Turn::open(alloc, Tally::new(alloc), 2)?;
     let mut second = turn.split(&mut first);

@@ -23,10 +23,10 @@ fn add_each<R: Wait>(
     first: u64,
     count: u64,
 ) -> Pass<Tally>
-    requires ready { IsReady pass.place (turn_id turn.now) }
+    requires ready { IsReady pass.seat (turn_id turn.now) }
     requires few { first + count < 2 ^ 64 }
-    ensures idle { IsIdle result.place }
-    ensures still { IsStill pass.place result.place }
+    ensures idle { IsIdle result.seat }
+    ensures still { IsStill pass.seat result.seat }
 {
     for value in first..first + count {
         add(rt, turn, &mut pass, value);
@@ -70,11 +70,11 @@ fn split_off(
     first: &mut Pass<Tally>,
     count: u32,
 ) -> Result<Vec<Pass<Tally>>, Memory>
-    requires ready { IsReady first.old.place (turn_id turn.now) }
-    requires room { count ≤ (known first.old.place).room }
-    ensures ready { IsReady first.new.place (turn_id turn.now) }
+    requires ready { IsReady first.old.seat (turn_id turn.now) }
+    requires room { count ≤ (known first.old.seat).room }
+    ensures ready { IsReady first.new.seat (turn_id turn.now) }
     ensures each { IfOk result (λ v. (i : ℕ) (d : _) → i < vec_len v →
-        IsReady (slice_index_or v.items i d).place (turn_id turn.now)) }
+        IsReady (slice_index_or v.items i d).seat (turn_id turn.now)) }
 {
     let mut passes = Vec::new(alloc);
     for _split in 0..count {
@@ -90,13 +90,13 @@ fn run_each<R: Threads + Wait + Sync>(
     passes: Vec<Pass<Tally>>,
 ) -> Result<(), Memory>
     requires { (i : ℕ) (d : _) → i < vec_len passes →
-        IsReady (slice_index_or passes.items i d).place (turn_id turn.now) }
+        IsReady (slice_index_or passes.items i d).seat (turn_id turn.now) }
 {
     thread::map_vec(
         rt,
         passes,
         &|pass: Pass<Tally>| -> ()
-            requires { IsReady pass.place (turn_id turn.now) }
+            requires { IsReady pass.seat (turn_id turn.now) }
         {
             let first = u64::from(pass.number()) * 250;
             add_each(rt, turn, pass, first, 250);

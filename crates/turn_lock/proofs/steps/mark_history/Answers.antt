@@ -10,11 +10,11 @@ number_of false = refl
 
 pub fetch_add-requires : goal.fetch_add-requires
 fetch_add-requires g c =
-    let told = c.requires.told in
+    let told = c.requires.list in
     let size = c.marks.ensures in
     let size' = ap (length {A = g.row.B-Entry.Denot}) told in
-    let short : length g.W.Told.list < 2 ^ 32 = omega arith in
-    let v = c.args.place.now.me.0 in (
+    let short : length g.W.MarkedHistory.list < 2 ^ 32 = omega arith in
+    let v = c.args.seat.now.me.0 in (
       search rules,
       search rules,
       marks_history g.B.Counted.history g.B.Counted.author g.B.Counted.label _ _ _ _ _

@@ -5,6 +5,6 @@ use Rattle.turn_lock.proofs.steps.wait_turn.Given as goal
 
 abbrev pub invariant-loop : goal.invariant-loop
 invariant-loop g l = record {
-  table : l.place.table_id ≡ l.fn.place.table_id;
-  waits : (t : ℕ) × (l.ticket ≡ t % 2 ^ 64) × (l.place.me ≡ (at_stage (Waits t) l.fn.place.me.0, []));
+  table : l.seat.table_id ≡ l.fn.seat.table_id;
+  waits : (t : ℕ) × (l.ticket ≡ t % 2 ^ 64) × (l.seat.me ≡ (at_stage (Waits t) l.fn.seat.me.0, []));
 }

@@ -8,5 +8,5 @@ close-tally-requires-clause-all g c =
     let split = c.in_ok-turn.field-0 in
     let numbers = c.in_ok-turn.ensures.numbers in
     subst HasAll (sym c.join.ensures.joined)
-    (both_joined split.first.place.me.0 split.second.place.me.0 numbers.0 numbers.1
+    (both_joined split.first.seat.me.0 split.second.seat.me.0 numbers.0 numbers.1
     c.in_ok-turn.ensures.seats)

@@ -5,8 +5,8 @@ use Rattle.turn_lock.proofs.tests.threads.split_off.Given as goal
 
 abbrev pub invariant-loop-split : goal.invariant-loop-split
 invariant-loop-split l = record {
-  ready : IsReady l.first.place (turn_id l.turn);
-  room : l.count ≤ (known l.first.place).room + l._split;
+  ready : IsReady l.first.seat (turn_id l.turn);
+  room : l.count ≤ (known l.first.seat).room + l._split;
   each : (i : ℕ) (d : _) → i < vec_len l.passes
-      → IsReady (slice_index_or l.passes.items i d).place (turn_id l.turn);
+      → IsReady (slice_index_or l.passes.items i d).seat (turn_id l.turn);
 }

@@ -6,5 +6,5 @@ use Rattle.turn_lock.proofs.tests.threads.two_threads_add_a_thousand_each.Goals 
 pub close-tally-requires-clause-all : goal.close-tally-requires-clause-all
 close-tally-requires-clause-all g c =
     let back = c.join-one.result in
-    subst HasAll (sym c.join.ensures.joined) (both_joined back.0.place.me.0 back.1.place.me.0
+    subst HasAll (sym c.join.ensures.joined) (both_joined back.0.seat.me.0 back.1.seat.me.0
     (search rules) (search rules) (search rules))

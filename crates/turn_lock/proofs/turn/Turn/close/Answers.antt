@@ -19,4 +19,4 @@ returns g c =
     c.requires.ready.1.0 c.requires.all in
     let given : Some last.0 ≡ Some c.unwrap.result = sym last.1 ∙ c.unwrap.ensures in
     let same : last.0 ≡ c.unwrap.result = cc in
-    subst (IsLast g.B.Counted.history g.B.Counted.author g.B.Counted.label c.args.pass.place.me.0) same last.2
+    subst (IsLast g.B.Counted.history g.B.Counted.author g.B.Counted.label c.args.pass.seat.me.0) same last.2
