@@ -1,6 +1,6 @@
 -- The loop over the lines of an input. What was written so far, and the replies to the lines that are left, are the
 -- whole output; so at each end of the loop a front of the output was written, or all of it.
-use Rattle.std.proofs.Common.{◌≡◌, ℕ, ◌+◌, ◌<◌, ◌≤◌, min, Bool, false, ◌||◌, List, [], ◌∷◌, ◌++◌, length, Option, is_none, refl, sym, ap, ◌∙◌, subst, arith, append_assoc, append-nil}
+use Rattle.std.proofs.Common.{◌≡◌, ℕ, ◌+◌, ◌<◌, ◌≤◌, min, Bool, false, ◌||◌, List, [], ◌∷◌, ◌++◌, length, Option, is_none, refl, sym, ap, ◌∙◌, subst, arith, append_assoc, append-nil, eq-zero-or-pos, ◌⊎◌, inl, inr}
 use Rattle.std.proofs.Math.Bool.{or_assoc, or-false}
 use Rattle.std.proofs.lemmas.List.{take_all, take_min, take-append-le}
 use Rattle.std.specs.Io.KnownBytes.{Appends}
@@ -116,3 +116,20 @@ ends input st number some rest old new h none =
     ∙ ap (λ ls. some || some_bad st ls) no_line
     ∙ or-false some in
     (subst (Appends old new) (sym all) h.replied.1, sym bads)
+
+-- where n bytes were handed on, or none and nothing is changed, a sink that was open is open
+pub open_after : {K : Type 0} (shut : K → Bool) (n : ℕ) (old new : K)
+    → (0 < n → shut new ≡ false)
+    → (n ≡ 0 → new ≡ old)
+    → shut old ≡ false
+    → shut new ≡ false
+open_after shut n old new some none was =
+    elim (eq-zero-or-pos n) [
+      | inl empty ↦ ap shut (none empty) ∙ was
+      | inr more ↦ some more
+    ]
+
+-- no fault was counted before, and none at a call that didn't fail
+pub still_none : {F : Type 0} (first old new : ℕ) → (F → ⊥) → F ⊎ (new ≡ old) → old ≡ first → new ≡ first
+still_none first old new never (inr same) e = same ∙ e
+still_none first old new never (inl failed) e = absurd (never failed)

@@ -1,9 +1,9 @@
 -- What each command keeps true of the machine's state.
 -- Serials rise along the live list, so that a new segment's place by name is the end.
-use Rattle.std.proofs.Common.{◌≡◌, ℕ, ◌+◌, ◌-◌, ◌<◌, nat_lt, Bool, true, false, cond, List, [], ◌∷◌, ◌++◌, length-append, filter, All, Some, None, is_some, unsigned_abs, ◌⊎◌, inl, inr, ⊎_elim, ◌==◌, refl, sym, ap, ◌∙◌, subst, arith, Less, Greater}
+use Rattle.std.proofs.Common.{◌≡◌, ℕ, ◌+◌, ◌-◌, nat_lt, Bool, true, false, cond, List, [], ◌∷◌, ◌++◌, length-append, filter, All, Some, None, is_some, unsigned_abs, ◌⊎◌, inl, inr, ⊎_elim, ◌==◌, refl, sym, ap, ◌∙◌, arith, Less, Greater}
 use Rattle.std.specs.List.{AllByRecursion}
 use Rattle.std.specs.List.Sorted.{IsStrictlySortedBy}
-use Rattle.std.proofs.lemmas.Option.{MatchOption-at_some, IfSome_then}
+use Rattle.std.proofs.lemmas.Option.{MatchOption-at_some}
 use Rattle.std.specs.Ordering.{is_lt, is_eq}
 use Rattle.std.proofs.lemmas.Bool.Decides.{nat_tests}
 use Rattle.std.proofs.lemmas.List.Elements.{All-nil, All-push, All-weaker, All-head, All-tail}
@@ -157,52 +157,7 @@ commit_kept st s h e =
       inserts = h.inserts;
     }
 
--- the state after an insertion that is prepared
-pub prepare_kept : (st : State) (s : Segment)
-    → IsState st
-    → st.inserts < 64
-    → IsSegment 1048576 s
-    → s.name ≡ record { editor = 1; serial = st.serial + 1 }
-    → IsState (record st { prepared = Some s; serial = st.serial + 1; inserts = st.inserts + 1 })
-prepare_kept st s h room within named =
-    let last : st.serial ≡ st.serial + 1 - 1 = omega arith in
-    record {
-      live = h.live;
-      drawn = All-weaker (IsDrawnBy st.serial) (IsDrawnBy (st.serial + 1)) (λ t d. record { editor = d.editor; serial = omega (arith, d.serial) }) st.live h.drawn;
-      prepared = record {
-        within = within;
-        named = named;
-        serial = omega arith;
-        before = subst (λ n. All (IsDrawnBy n) st.live) last h.drawn;
-        commits = omega (arith, h.commits);
-      };
-      counted = h.counted;
-      commits = omega (arith, h.commits);
-      serial = omega (arith, h.serial);
-      inserts = omega arith;
-    }
-
--- the state after an insertion that is refused
-pub refuse_kept : (st : State)
-    → IsState st
-    → st.inserts < 64
-    → IsState (record st { inserts = st.inserts + 1 })
-refuse_kept st h room =
-    record {
-      live = h.live;
-      drawn = h.drawn;
-      prepared = IfSome_then st.prepared h.prepared (λ s n. record { within = n.within; named = n.named; serial = n.serial; before = n.before; commits = n.commits });
-      counted = h.counted;
-      commits = h.commits;
-      serial = omega (arith, h.serial);
-      inserts = omega arith;
-    }
-
 named_of : (in_order : Bool) (name : Label) (a b : Point)
     → (cond in_order (record { name = name; p = a; q = b }) (let s : Segment = record { name = name; p = b; q = a } in s)).name ≡ name
 named_of true name a b = refl
 named_of false name a b = refl
-
--- a segment has the name it is given
-pub segment_named : (name : Label) (a b : Point) → (segment_of name a b).name ≡ name
-segment_named name a b = named_of (is_lt (point_cmp a b)) name a b

@@ -67,12 +67,16 @@ pub record Played (status : ℕ) (old new : Outside) : Type 0 where
   pub replied : IfSome old.left (λ bytes. status ≤ 1
       → Appends old.written new.written (output bytes))
   pub shut : status ≤ 1 → new.shut ≡ true
+  -- 3 to 6: a sink that was open is still open
+  pub left_open : 2 < status → old.shut ≡ false → new.shut ≡ false
   -- 0 where no line is bad, and 1 where one is
   pub clean : IfSome old.left (λ bytes. status ≡ 0 → has_bad_line bytes ≡ false)
   pub bad : IfSome old.left (λ bytes. status ≡ 1 → has_bad_line bytes ≡ true)
-  -- 3 and 4: the source failed, or the sink did
+  -- 3 and 4: the source failed, or the sink did, and at no other status
   pub source_failed : status ≡ 3 → Rose old.read_faults new.read_faults
+  pub source_failed_only : (status ≡ 3) ⊎ (new.read_faults ≡ old.read_faults)
   pub sink_failed : status ≡ 4 → Rose old.write_faults new.write_faults
+  pub sink_failed_only : (status ≡ 4) ⊎ (new.write_faults ≡ old.write_faults)
   -- 5 exactly where one byte more than the greatest input was taken; memory may be refused for it
   pub too_long : status ≡ 5 → TakesExactly old.left new.left (most_bytes + 1)
   pub too_long_only : IfSome old.left (λ _. TakesExactly old.left new.left (most_bytes + 1)

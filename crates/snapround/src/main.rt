@@ -8,13 +8,12 @@ mod reply;
 mod script;
 #[cfg(test)]
 mod tests;
+mod words;
 
 use io_ports::{StdSink, StdSource};
-use play::{Status, top};
-use std::env;
-use std::io::ErrorKind;
+use play::top;
 use std::process::ExitCode;
-use std::rt::Env;
+use words::words;
 
 fn main(rt: HostRuntime) -> ExitCode {
     let status = match words(&rt) {
@@ -26,14 +25,4 @@ fn main(rt: HostRuntime) -> ExitCode {
         Err(status) => status.code(),
     };
     ExitCode::from(status)
-}
-
-/// The words after the program's name. A word that isn't UTF-8 is one that the program doesn't
-/// take.
-fn words(rt: &(impl Env + AllocGlobal)) -> Result<Vec<String>, Status> {
-    match env::args(rt) {
-        Ok(args) => args.skip(1).collect(rt.alloc()).map_err(|_| Status::Memory),
-        Err(error) if error.kind() == ErrorKind::OutOfMemory => Err(Status::Memory),
-        Err(_) => Err(Status::BadWords),
-    }
 }

@@ -124,7 +124,9 @@ fn respond<K: Sink>(alloc: Global, input: &[u8], sink: &mut K) -> Result<bool, S
     ensures bad { IfOk result (λ bad. bad ≡ has_bad_line input.now) }
     ensures failed { IsErrOf result SinkFault.Failed
         → Rose (K.faults sink.old) (K.faults sink.new) }
+    ensures no_fault { IsErrOf result SinkFault.Failed ⊎ (K.faults sink.new ≡ K.faults sink.old) }
     ensures shut { OnOk result (K.shut sink.new ≡ true) }
+    ensures left_open { OnErr result (K.shut sink.old ≡ false → K.shut sink.new ≡ false) }
 {
     let some_bad = answer_all(alloc, input, sink)?;
     sink.close()?;
@@ -140,7 +142,9 @@ fn answer_all<K: Sink>(alloc: Global, input: &[u8], sink: &mut K) -> Result<bool
     ensures bad { IfOk result (λ bad. bad ≡ has_bad_line input.now) }
     ensures failed { IsErrOf result SinkFault.Failed
         → Rose (K.faults sink.old) (K.faults sink.new) }
+    ensures no_fault { IsErrOf result SinkFault.Failed ⊎ (K.faults sink.new ≡ K.faults sink.old) }
     ensures later { K.faults sink.old ≤ K.faults sink.new }
+    ensures left_open { K.shut sink.old ≡ false → K.shut sink.new ≡ false }
 {
     let mut machine = Machine::new(alloc);
     let mut reply = Vec::new(alloc);

@@ -117,6 +117,54 @@ fn an_insert_after_64_others_is_bad(rt: HostRuntime) -> Result<(), Fail> {
     Ok(())
 }
 
+/// Appends the text.
+fn push(out: &mut Vec<u8>, text: &str) -> Result<(), Fail> {
+    out.extend_from_slice(text.as_bytes())?;
+    Ok(())
+}
+
+// One upright segment beside the other, as many as a script can draw.
+#[test]
+fn sixty_four_segments_are_shown(rt: HostRuntime) -> Result<(), Fail> {
+    let alloc = rt.alloc();
+    let mut input = Vec::new(alloc);
+    let mut output = Vec::new(alloc);
+    for k in 1..65u32 {
+        push(
+            &mut input,
+            &format!(in alloc; "1 insert {k} 0 {k} 1\n1 commit\n")?,
+        )?;
+        push(
+            &mut output,
+            &format!(in alloc; "1 ready 1.{k}\n1 commit {k}\n")?,
+        )?;
+    }
+    push(&mut input, "1 show\n")?;
+    push(&mut output, "arrangement 64\nsegments 64\n")?;
+    for k in 1..65u32 {
+        let line = format!(in alloc; "1.{k} {k} 0 {k} 1 route 2 {k} 0 {k} 1\n")?;
+        push(&mut output, &line)?;
+    }
+    push(&mut output, "vertices 128\n")?;
+    for k in 1..65u32 {
+        let line = format!(in alloc; "{k} 0 ends 1 crossings 0\n{k} 1 ends 1 crossings 0\n")?;
+        push(&mut output, &line)?;
+    }
+    push(&mut output, "edges 64\n")?;
+    for k in 1..65u32 {
+        push(
+            &mut output,
+            &format!(in alloc; "{k} 0 {k} 1 names 1 1.{k}\n")?,
+        )?;
+    }
+    push(&mut output, "end\n")?;
+    let mut sink = SteadySink::new(alloc);
+    let status = play(alloc, &mut SteadySource::new(input), &mut sink);
+    assert_eq!(rt; status, 0);
+    assert_eq!(rt; sink.bytes(), output.as_slice());
+    Ok(())
+}
+
 /// The status of a run with these words, on one bad line.
 fn status_of(rt: &HostRuntime, words: &[&str]) -> Result<u8, Fail> {
     let mut list = Vec::new(rt.alloc());

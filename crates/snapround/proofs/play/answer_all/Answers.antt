@@ -1,7 +1,7 @@
-use Rattle.std.proofs.Common.{◌≡◌, ◌+◌, length, ◌∙◌, arith, rules}
+use Rattle.std.proofs.Common.{◌≡◌, ◌+◌, length, ◌∙◌, rules}
 use Rattle.std.proofs.lemmas.Result.{err_from_is_err_and}
 use Rattle.snapround.specs.Machine.{reply, accepted}
-use Rattle.snapround.proofs.Runs.{goes_on, fails, stops, ends}
+use Rattle.snapround.proofs.Runs.{open_after, still_none, goes_on, fails, stops, ends}
 use Rattle.snapround.proofs.play.answer_all.Goals as goal
 
 pub returns-in-Err-clause-part : goal.returns-in-Err-clause-part
@@ -22,7 +22,8 @@ loop-line-preserved g c =
     c.deref.ensures.value ∙ rw c.clear.ensures.items at c.in-Ok.ensures.reply in
     record {
       answered = goes_on _ _ _ _ _ _ _ _ _ _ _ _ _ c.loop-line.invariant.answered c.in-Some.ensures.lines c.in-Some.ensures.shorter c.in-Ok.ensures.bad c.in-Ok.ensures.state text c.in_ok-write_whole.ensures.whole;
-      later = omega (arith, c.loop-line.invariant.later, c.in_ok-write_whole.ensures.later);
+      no_fault = still_none _ _ _ (λ failed. cc) c.in_ok-write_whole.ensures.no_fault c.loop-line.invariant.no_fault;
+      left_open = λ was. open_after g.K.Sink.shut _ _ _ c.write_whole.ensures.open (λ none. (c.write_whole.ensures.untouched none).1) (c.loop-line.invariant.left_open was);
     }
 
 pub returns-clause-whole : goal.returns-clause-whole
