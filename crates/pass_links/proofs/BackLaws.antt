@@ -11,7 +11,8 @@ use Rattle.pass_links.proofs.ChainLaws.{way_end}
 use Rattle.pass_links.proofs.FamilyLaws.{next_stored}
 use Rattle.pass_links.proofs.PlaceLaws.{IsPointed, labelled, before_other}
 use Rattle.pass_links.proofs.WalkLaws.{place_stored, ended}
-use Rattle.pass_links.proofs.TestLaws.{itself, key_itself, keys_differ}
+use Rattle.grid_core.proofs.Comparisons.{itself}
+use Rattle.pass_links.proofs.KeyLaws.{key_itself, keys_differ}
 
 -- ---- links and keys
 

@@ -7,7 +7,9 @@ use Rattle.std.proofs.lemmas.Bool.Decides.{Decides-eqb, not_from_Decides}
 use Rattle.std.proofs.lemmas.List.Sums.{length-filter, sum_by-cons}
 use Rattle.std.proofs.lemmas.List.Filters.{length-filter_both}
 use Rattle.pass_links.specs.Chain.{end, way, IsWay, key_behind, has_key}
-use Rattle.pass_links.proofs.TestLaws.{key_itself, keys_differ, keys_swapped, counted, count_none, count_filter, any_left, none_left, or_swapped}
+use Rattle.grid_core.proofs.Filters.{counted, count_none, count_filter, any_left, none_left}
+use Rattle.grid_core.proofs.SortedLists.{or_swapped}
+use Rattle.pass_links.proofs.KeyLaws.{key_itself, keys_differ, keys_swapped}
 
 -- ---- the way
 

@@ -7,7 +7,8 @@ use Rattle.std.specs.Bool.{Decides}
 use Rattle.std.proofs.lemmas.Bool.{cases_eq, or_left}
 use Rattle.std.proofs.lemmas.Bool.Decides.{Decides-eqb}
 use Rattle.pass_links.specs.Chain.{end, way, IsWay, key_behind, has_key, is_of, IsFamily}
-use Rattle.pass_links.proofs.TestLaws.{key_itself, keys_differ, any_left}
+use Rattle.grid_core.proofs.Filters.{any_left}
+use Rattle.pass_links.proofs.KeyLaws.{key_itself, keys_differ}
 use Rattle.pass_links.proofs.ChainLaws.{has_behind, filter_absent, in_one, way_length, way_of_IsWay, way_next, way_as, way_at, way_ahead, way_follows, way_once, pigeonhole, way_put, way_taken}
 
 -- A family after a change in the list of q: that list is ks, and all others are as before.

@@ -13,12 +13,13 @@ use Rattle.pass_links.specs.Node.{name_of, pixel_of, node_at, along_at, across_a
 use Rattle.pass_links.specs.Lists.{pixels_from, names_from}
 use Rattle.pass_links.specs.Passes.{has_pixel, linked_behind, with_name, without_pixel, without_name, AreLinked}
 use Rattle.pass_links.specs.Filing.{AreFiled, AreLonger}
-use Rattle.pass_links.specs.Seek.{IsLesser, IsThrough}
+use Rattle.pass_links.specs.Positions.{IsLesser, IsThrough}
 use Rattle.pass_links.specs.Links.{is_key}
 use Rattle.pass_links.proofs.FamilyLaws.{IsChanged}
 use Rattle.pass_links.proofs.ListedLaws.{listed_without, rising_once}
 use Rattle.pass_links.proofs.LinkedLaws.{linked_more, linked_less}
-use Rattle.pass_links.proofs.TestLaws.{keys_differ, point_decides, label_decides}
+use Rattle.grid_core.proofs.Comparisons.{point_decides, label_decides}
+use Rattle.pass_links.proofs.KeyLaws.{keys_differ}
 use Rattle.pass_links.proofs.PlaceLaws.{put_key, labelled, place_put, place_taken, values_kept, before_in}
 use Rattle.pass_links.proofs.ValueLaws.{IsGreaterOf, key_at, pixel_put, name_put}
 use Rattle.pass_links.proofs.WalkLaws.{place_stored}

@@ -1,17 +1,17 @@
-mod TestLaws
-mod NodesLaws
-mod ChainLaws
-mod FamilyLaws
-mod ListedLaws
-mod HeadLaws
-mod LinkedLaws
-mod PlaceLaws
-mod ValueLaws
-mod WalkLaws
-mod BackLaws
-mod NodeLaws
-mod SeekLaws
-mod FilingLaws
-mod SeenLaws
-mod RunLaws
-mod UnlinkLaws
+pub mod KeyLaws
+pub mod StoredLaws
+pub mod ChainLaws
+pub mod FamilyLaws
+pub mod ListedLaws
+pub mod HeadLaws
+pub mod LinkedLaws
+pub mod PlaceLaws
+pub mod ValueLaws
+pub mod WalkLaws
+pub mod BackLaws
+pub mod NodeLaws
+pub mod PositionLaws
+pub mod FilingLaws
+pub mod SeenLaws
+pub mod RunLaws
+pub mod UnlinkLaws

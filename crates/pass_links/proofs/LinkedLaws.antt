@@ -1,12 +1,8 @@
 -- The two families of lists agree when they are empty, when a pass is linked, and when one is unlinked.
 -- Lists are followed through what stands in them, never through how they are kept.
-use Rattle.std.proofs.Common.{◌≡◌, refl, ap, sym, ◌∙◌, subst, ◌+◌, ◌≤◌, arith, Bool, true, false, cond, not, ◌&&◌, ◌||◌, List, [], ◌∷◌, ◌++◌, Ordering, Less, Equal, Greater, is_lt, is_eq, Option, None, Some}
+use Rattle.std.proofs.Common.{◌≡◌, refl, ap, sym, ◌∙◌, subst, ◌+◌, ◌≤◌, arith, Bool, true, false, cond, not, ◌&&◌, ◌||◌, List, [], ◌∷◌, Option, None, Some}
 use Rattle.std.specs.Prelude.{filter, count_by}
-use Rattle.std.specs.Cmp.{IsTotalOrder}
-use Rattle.std.specs.List.{list_any, AllByRecursion}
 use Rattle.std.specs.List.Sorted.{IsStrictlySortedBy}
-use Rattle.std.specs.Ordering.{ordering_reverse, eq_by_cmp}
-use Rattle.std.proofs.lemmas.Cmp.{alike_right}
 use Rattle.std.proofs.lemmas.List.Kept.{IsStrictlySortedBy-filter}
 use Rattle.std.proofs.lemmas.List.Sums.{sum_by-cons}
 use Rattle.grid_core.specs.declared.point.Point.{Point}
@@ -14,95 +10,9 @@ use Rattle.grid_core.specs.Vector.{point_eq}
 use Rattle.grid_core.specs.Name.{Label, label_cmp, label_eq}
 use Rattle.grid_core.proofs.Order.{point_exact, label_total, label_exact}
 use Rattle.pass_links.specs.Passes.{has_pixel, has_name, put_behind, linked_behind, with_name, AreLinked}
-use Rattle.pass_links.proofs.TestLaws.{is_less, is_equal, point_decides, label_decides, count_none, count_filter, any_left, or_swapped}
-
--- ---- tests
-
-or_regrouped : (a b c : Bool) → ((a || b) || c) ≡ (a || (b || c))
-or_regrouped true b c = refl
-or_regrouped false b c = refl
-
-left_first : (a b q rest whole : Bool) → (b || (q || rest)) ≡ (q || whole) → ((a || b) || (q || rest)) ≡ (q || (a || whole))
-left_first a b q rest whole e = or_regrouped a b (q || rest) ∙ ap (λ t. a || t) e ∙ or_swapped a q whole
-
-right_first : (a b q rest whole : Bool) → (b || (q || rest)) ≡ (q || whole) → (b || (q || (a || rest))) ≡ (q || (a || whole))
-right_first a b q rest whole e =
-    ap (λ t. b || t) (or_swapped q a rest) ∙ or_swapped b a (q || rest) ∙ ap (λ t. a || t) e ∙ or_swapped a q whole
-
-or_again : (q whole : Bool) → (q || whole) ≡ (q || (q || whole))
-or_again true whole = refl
-or_again false whole = refl
-
--- ---- what stands in a list
-
-pub any_append : {X : Type 0} (p : X → Bool) (xs ys : List X) → list_any p (xs ++ ys) ≡ (list_any p xs || list_any p ys)
-any_append p [] ys = refl
-any_append p (x ∷ xs) ys = ap (λ b. p x || b) (any_append p xs ys) ∙ sym (or_regrouped (p x) (list_any p xs) (list_any p ys))
-
-module _ {K : Type 0} {R : K → K → Ordering} (o : IsTotalOrder R) where
-  any_in_parts : (n k : K) (ks : List K)
-      → (list_any (eq_by_cmp R n) (filter (λ m. is_lt (R m k)) ks) || (eq_by_cmp R n k || list_any (eq_by_cmp R n) (filter (λ m. is_lt (R k m)) ks)))
-      ≡ (eq_by_cmp R n k || list_any (eq_by_cmp R n) ks)
-  any_in_parts n k [] = refl
-  any_in_parts n k (m ∷ ms) = by (any_in_parts n k ms) (R m k) refl (R k m) (o.antisymm k m)
-    where
-      low : List K
-      low = filter (λ j. is_lt (R j k)) ms
-
-      high : List K
-      high = filter (λ j. is_lt (R k j)) ms
-
-      by : (list_any (eq_by_cmp R n) low || (eq_by_cmp R n k || list_any (eq_by_cmp R n) high)) ≡ (eq_by_cmp R n k || list_any (eq_by_cmp R n) ms)
-          → (r : Ordering) → R m k ≡ r → (s : Ordering) → s ≡ ordering_reverse (R m k)
-          → (list_any (eq_by_cmp R n) (cond (is_lt r) (m ∷ low) low) || (eq_by_cmp R n k || list_any (eq_by_cmp R n) (cond (is_lt s) (m ∷ high) high)))
-          ≡ (eq_by_cmp R n k || (eq_by_cmp R n m || list_any (eq_by_cmp R n) ms))
-      by rest Less e s f =
-          ap (λ t. list_any (eq_by_cmp R n) (m ∷ low) || (eq_by_cmp R n k || list_any (eq_by_cmp R n) (cond (is_lt t) (m ∷ high) high))) (f ∙ ap ordering_reverse e)
-          ∙ left_first (eq_by_cmp R n m) (list_any (eq_by_cmp R n) low) (eq_by_cmp R n k) (list_any (eq_by_cmp R n) high) (list_any (eq_by_cmp R n) ms) rest
-      by rest Equal e s f =
-          ap (λ t. list_any (eq_by_cmp R n) low || (eq_by_cmp R n k || list_any (eq_by_cmp R n) (cond (is_lt t) (m ∷ high) high))) (f ∙ ap ordering_reverse e)
-          ∙ rest ∙ or_again (eq_by_cmp R n k) (list_any (eq_by_cmp R n) ms)
-          ∙ ap (λ t. eq_by_cmp R n k || (is_eq t || list_any (eq_by_cmp R n) ms)) (sym (alike_right o m k n e))
-      by rest Greater e s f =
-          ap (λ t. list_any (eq_by_cmp R n) low || (eq_by_cmp R n k || list_any (eq_by_cmp R n) (cond (is_lt t) (m ∷ high) high))) (f ∙ ap ordering_reverse e)
-          ∙ right_first (eq_by_cmp R n m) (list_any (eq_by_cmp R n) low) (eq_by_cmp R n k) (list_any (eq_by_cmp R n) high) (list_any (eq_by_cmp R n) ms) rest
-
-  -- the key k put into its place
-  pub any_in_place : (n k : K) (ks : List K)
-      → list_any (eq_by_cmp R n) (filter (λ m. is_lt (R m k)) ks ++ k ∷ filter (λ m. is_lt (R k m)) ks) ≡ (eq_by_cmp R n k || list_any (eq_by_cmp R n) ks)
-  any_in_place n k ks =
-      any_append (eq_by_cmp R n) (filter (λ m. is_lt (R m k)) ks) (k ∷ filter (λ m. is_lt (R k m)) ks) ∙ any_in_parts n k ks
-
-  around : (P : K → Type 0) (xs : List K) (x : K) (ys : List K) → AllByRecursion P xs → P x → AllByRecursion P ys → AllByRecursion P (xs ++ x ∷ ys)
-  around P [] x ys a p b = (p, b)
-  around P (z ∷ xs) x ys a p b = (a.0, around P xs x ys a.1 p b)
-
-  later : (k x : K) (ys : List K) → R k x ≡ Less → AllByRecursion (λ y. R x y ≡ Less) ys → AllByRecursion (λ y. R k y ≡ Less) ys
-  later k x [] e h = tt
-  later k x (y ∷ ys) e h = (o.trans k x y e h.0, later k x ys e h.1)
-
-  all_kept : (P : K → Type 0) (p : K → Bool) → ((x : K) → p x ≡ true → P x) → (xs : List K) → AllByRecursion P (filter p xs)
-  all_kept P p h [] = tt
-  all_kept P p h (x ∷ xs) = by (all_kept P p h xs) (p x) refl
-    where
-      by : AllByRecursion P (filter p xs) → (b : Bool) → p x ≡ b → AllByRecursion P (cond b (x ∷ filter p xs) (filter p xs))
-      by rest true e = (h x e, rest)
-      by rest false e = rest
-
-  sorted_around : (xs : List K) (x : K) (ys : List K) → IsStrictlySortedBy R xs → AllByRecursion (λ k. R k x ≡ Less) xs
-      → AllByRecursion (λ k. R x k ≡ Less) ys → IsStrictlySortedBy R ys → IsStrictlySortedBy R (xs ++ x ∷ ys)
-  unfolding IsStrictlySortedBy
-  sorted_around [] x ys s a b t = (b, t)
-  sorted_around (z ∷ xs) x ys s a b t = (around (λ y. R z y ≡ Less) xs x ys s.0 a.0 (later z x ys a.0 b), sorted_around xs x ys s.1 a.1 b t)
-
-  -- a rising list with the key k in its place still rises
-  pub rises_in_place : (k : K) (ks : List K) → IsStrictlySortedBy R ks → IsStrictlySortedBy R (filter (λ m. is_lt (R m k)) ks ++ k ∷ filter (λ m. is_lt (R k m)) ks)
-  rises_in_place k ks s =
-      sorted_around (filter (λ m. is_lt (R m k)) ks) k (filter (λ m. is_lt (R k m)) ks)
-      (IsStrictlySortedBy-filter R (λ m. is_lt (R m k)) ks s)
-      (all_kept (λ m. R m k ≡ Less) (λ m. is_lt (R m k)) (λ m h. is_less _ h) ks)
-      (all_kept (λ m. R k m ≡ Less) (λ m. is_lt (R k m)) (λ m h. is_less _ h) ks)
-      (IsStrictlySortedBy-filter R (λ m. is_lt (R k m)) ks s)
+use Rattle.grid_core.proofs.Comparisons.{is_equal, point_decides, label_decides}
+use Rattle.grid_core.proofs.Filters.{count_none, count_filter, any_left}
+use Rattle.grid_core.proofs.SortedLists.{or_swapped, any_in_place, rises_in_place}
 
 -- a pixel put behind another
 has_put : (p after x : Point) (ps : List Point) → has_pixel (put_behind after x ps) p ≡ (point_eq p x || has_pixel ps p)

@@ -17,7 +17,9 @@ use Rattle.grid_core.specs.Name.{Label, label_cmp, label_eq}
 use Rattle.grid_core.proofs.Order.{label_total}
 use Rattle.pass_links.specs.Passes.{put_behind, with_name}
 use Rattle.pass_links.specs.Chain.{end, IsWay, key_behind, has_key, listed}
-use Rattle.pass_links.proofs.TestLaws.{key_itself, keys_swapped, counted, count_none, count_some, none_left, point_decides, label_decides}
+use Rattle.grid_core.proofs.Comparisons.{point_decides, label_decides}
+use Rattle.grid_core.proofs.Filters.{counted, count_none, count_some, none_left}
+use Rattle.pass_links.proofs.KeyLaws.{key_itself, keys_swapped}
 use Rattle.pass_links.proofs.ChainLaws.{filter_absent}
 
 -- ---- values of keys

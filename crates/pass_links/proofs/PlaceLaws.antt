@@ -8,7 +8,8 @@ use Rattle.pass_links.specs.Chain.{end, way, key_behind, has_key, is_of, IsFamil
 use Rattle.pass_links.specs.Links.{is_key, HasHeadRoom, KeepsHeadRoom}
 use Rattle.pass_links.proofs.FamilyLaws.{IsChanged, way_from, put_first, put_behind_key, take_first, take_behind}
 use Rattle.pass_links.proofs.ListedLaws.{listed_as}
-use Rattle.pass_links.proofs.TestLaws.{itself, key_itself, keys_differ}
+use Rattle.grid_core.proofs.Comparisons.{itself}
+use Rattle.pass_links.proofs.KeyLaws.{key_itself, keys_differ}
 
 -- the key x at a place of a list: behind that key, or first
 abbrev pub put_key : Option ℕ → ℕ → List ℕ → List ℕ

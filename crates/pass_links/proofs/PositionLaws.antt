@@ -16,9 +16,10 @@ use Rattle.pass_links.specs.Node.{across_of, name_of, pixel_of, node_at, along_a
 use Rattle.pass_links.specs.Lists.{names_from, IsEndFree}
 use Rattle.pass_links.specs.Passes.{has_name}
 use Rattle.pass_links.specs.Heads.{pixel_start}
-use Rattle.pass_links.specs.Seek.{IsLesser, IsAtName}
+use Rattle.pass_links.specs.Positions.{IsLesser, IsAtName}
 use Rattle.pass_links.proofs.WalkLaws.{Steps, across_step, across_done, not_end, place_stored}
-use Rattle.pass_links.proofs.TestLaws.{or_false, point_decides}
+use Rattle.std.proofs.Math.Bool.{or-false}
+use Rattle.grid_core.proofs.Comparisons.{point_decides}
 
 pub free_of : (slots : List (Option Node)) (first : Label → ℕ) → IsFamily label_eq (along_at slots) first (name_at slots) end → IsEndFree slots
 free_of slots first lists = unnamed (node_at slots end) refl
@@ -72,7 +73,7 @@ only_first name m ms Equal e h s =
 only_first name m ms Greater e h s =
     let less : label_cmp name m ≡ Less = label_total.antisymm name m ∙ ap ordering_reverse e in (
       inr less,
-      (ap (λ b. label_eq name m || b) (none_before name m ms less s) ∙ or_false (label_eq name m)),
+      (ap (λ b. label_eq name m || b) (none_before name m ms less s) ∙ or-false (label_eq name m)),
     )
 
 module _ (slots : List (Option Node)) (pixels : List (Head Point)) (pixel : Point) (name : Label) (lists : IsFamily point_eq (across_at slots) (pixel_start pixels) (pixel_at slots) end) where

@@ -10,10 +10,12 @@ use Rattle.pass_links.specs.declared.node.Node.{Node}
 use Rattle.pass_links.specs.Chain.{IsPlace}
 use Rattle.pass_links.specs.Node.{along_at, name_at, pixel_at}
 use Rattle.pass_links.specs.Lists.{pixels_from, names_from}
-use Rattle.pass_links.specs.Seek.{IsThrough}
+use Rattle.pass_links.specs.Positions.{IsThrough}
 use Rattle.pass_links.specs.Filing.{AreFiled, AreLonger}
-use Rattle.pass_links.proofs.TestLaws.{itself, or_false, point_decides}
-use Rattle.pass_links.proofs.LinkedLaws.{has_linked, any_append}
+use Rattle.std.proofs.Math.Bool.{or-false}
+use Rattle.grid_core.proofs.Comparisons.{itself, point_decides}
+use Rattle.std.proofs.lemmas.List.Folds.{list_any-append}
+use Rattle.pass_links.proofs.LinkedLaws.{has_linked}
 
 -- ---- lists
 
@@ -130,7 +132,7 @@ module _ (name : Label) (after : Option Point) (run : List Point) (old : PassLis
       fresh = subst (λ ps. AreFresh ps (pixels_from slots (start name))) left h.fresh
 
       has_more : (p : Point) → has_pixel (take (i + 1) run) p ≡ (has_pixel (take i run) p || point_eq p pixel)
-      has_more p = ap (λ ps. has_pixel ps p) taken ∙ any_append (point_eq p) (take i run) (pixel ∷ []) ∙ ap (λ b. has_pixel (take i run) p || b) (or_false (point_eq p pixel))
+      has_more p = ap (λ ps. has_pixel ps p) taken ∙ list_any-append (point_eq p) (take i run) (pixel ∷ []) ∙ ap (λ b. has_pixel (take i run) p || b) (or-false (point_eq p pixel))
 
       -- the pixel wasn't among those before
       new : has_pixel (take i run) pixel ≡ false
@@ -144,7 +146,7 @@ module _ (name : Label) (after : Option Point) (run : List Point) (old : PassLis
       here p true e _ =
           let same : p ≡ pixel = (point_decides p pixel).0 e in
           ap (λ q. names_from slots' (next' q)) same ∙ more.here ∙ ap (with_name name) (h.others pixel new) ∙ ap (λ q. with_name name (names_at old q)) (sym same)
-      here p false e t = more.pixels p e ∙ h.here p (sym (or_false (has_pixel (take i run) p)) ∙ t)
+      here p false e t = more.pixels p e ∙ h.here p (sym (or-false (has_pixel (take i run) p)) ∙ t)
 
       others : (p : Point) → (has_pixel (take i run) p ≡ false) × (point_eq p pixel ≡ false) → names_from slots' (next' p) ≡ names_at old p
       others p apart = more.pixels p apart.1 ∙ h.others p apart.0
@@ -155,7 +157,7 @@ module _ (name : Label) (after : Option Point) (run : List Point) (old : PassLis
         where
           by : (b : Bool) → (has_pixel (take i run) p || b) ≡ true → (b || has_pixel (pixels_from slots (start name)) p) ≡ true
           by true t = refl
-          by false t = h.linked p (sym (or_false (has_pixel (take i run) p)) ∙ t)
+          by false t = h.linked p (sym (or-false (has_pixel (take i run) p)) ∙ t)
 
   -- all of them
   pub run_linked : {i : ℕ} {slots : List (Option Node)} {start : Label → ℕ} {start' : Point → ℕ} {before : Option ℕ} {at : ℕ}

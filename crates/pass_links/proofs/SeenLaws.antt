@@ -19,7 +19,7 @@ use Rattle.pass_links.proofs.ChainLaws.{way_end}
 use Rattle.pass_links.proofs.HeadLaws.{list_at_head}
 use Rattle.pass_links.proofs.LinkedLaws.{linked_same, linked_empty}
 use Rattle.pass_links.proofs.FamilyLaws.{family_empty}
-use Rattle.pass_links.proofs.TestLaws.{label_decides, point_decides}
+use Rattle.grid_core.proofs.Comparisons.{label_decides, point_decides}
 
 module _ (slots : List (Option Node)) (segments : List (Head Label)) (pixels : List (Head Point)) where
   abbrev pub seen : ℕ → PassLists

@@ -17,10 +17,11 @@ use Rattle.pass_links.specs.Lists.{pixels_from, names_from}
 use Rattle.pass_links.specs.Links.{TakesAlong, TakesAcross}
 use Rattle.pass_links.specs.Filing.{AreFiled}
 use Rattle.pass_links.proofs.ChainLaws.{way_end}
-use Rattle.pass_links.proofs.TestLaws.{itself, is_equal, point_decides, label_decides, none_left, any_left, filter_length}
+use Rattle.grid_core.proofs.Comparisons.{itself, is_equal, point_decides, label_decides}
+use Rattle.grid_core.proofs.Filters.{none_left, any_left, filter_length}
 use Rattle.pass_links.proofs.WalkLaws.{place_stored, along_step, across_step, has_node, has_node_at, ended}
 use Rattle.pass_links.proofs.BackLaws.{IsPointedBack, LinksBackBut, back_taken, back_beside, back_all}
-use Rattle.pass_links.proofs.SeekLaws.{free_of}
+use Rattle.pass_links.proofs.PositionLaws.{free_of}
 use Rattle.pass_links.proofs.NodeLaws.{Relinks, restarted, unlinks_along, unlinks_across}
 use Rattle.pass_links.proofs.FilingLaws.{AreListed, AreShorter, lists_shorter}
 

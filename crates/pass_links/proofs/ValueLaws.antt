@@ -8,7 +8,7 @@ use Rattle.grid_core.specs.Vector.{point_eq}
 use Rattle.grid_core.specs.Name.{Label, label_cmp, label_eq}
 use Rattle.grid_core.proofs.Order.{label_total}
 use Rattle.pass_links.specs.Chain.{end, IsWay, has_key, is_of, listed}
-use Rattle.pass_links.specs.Seek.{IsThrough, IsLesser, IsAtName}
+use Rattle.pass_links.specs.Positions.{IsThrough, IsLesser, IsAtName}
 use Rattle.pass_links.specs.Passes.{put_behind, linked_behind, with_name}
 use Rattle.pass_links.proofs.ListedLaws.{listed_first, listed_behind, listed_in_place_first, listed_in_place_behind}
 use Rattle.pass_links.proofs.PlaceLaws.{put_key}

@@ -4,6 +4,6 @@ pub mod Nodes
 pub mod Node
 pub mod Heads
 pub mod Lists
-pub mod Seek
+pub mod Positions
 pub mod Links
 pub mod Filing

@@ -1,32 +1,23 @@
 -- Passes of segments through hot pixels, as contracts see them: each segment has the list of its
 -- pixels, and each pixel the list of the names of its segments.
-use Rattle.std.specs.Prelude.{◌≡◌, ℕ, ℤ, ◌≤◌, Bool, false, cond, not, List, [], ◌∷◌, ◌++◌, filter, count_by, refl, Option, None, Some}
+use Rattle.std.specs.Prelude.{◌≡◌, ℕ, ◌≤◌, Bool, false, cond, not, List, [], ◌∷◌, ◌++◌, filter, count_by, refl, Option, None, Some}
 use Rattle.std.specs.List.{list_any}
 use Rattle.std.specs.List.Sorted.{IsStrictlySortedBy}
 use Rattle.std.specs.declared.cmp.Ordering.{Ordering}
 use Rattle.std.specs.Ordering.{is_lt}
 use Rattle.std.specs.Option.{unwrap_or}
 use Rattle.std.specs.FinMap.{FinMap, get, code}
-use Rattle.std.specs.Coded.{Coded, code_by, coded×, coded_ℕ, coded_ℤ, coded_list}
+use Rattle.std.specs.Coded.{Coded, code_by, coded×, coded_ℕ, coded_list}
 use Rattle.grid_core.specs.declared.point.Point.{Point}
 use Rattle.grid_core.specs.Vector.{point_cmp, point_eq}
 use Rattle.grid_core.specs.Name.{Label, label_cmp, label_eq}
+use Rattle.grid_core.specs.Codes.{label_code, point_code}
 
 -- the lists of the segments, the lists of the pixels, and how many passes can be linked without memory
 pub record PassLists : Type 0 where
   pub segments : FinMap label_cmp (List Point)
   pub pixels : FinMap point_cmp (List Label)
   pub spare : ℕ
-
--- a name is stored as the pair of its parts
-abbrev pub label_code : Coded Label
-label_code =
-    code_by (ℕ × ℕ) (coded× coded_ℕ coded_ℕ) (λ n. (n.editor, n.serial)) (λ p. record { editor = p.0; serial = p.1 }) (λ _. refl)
-
--- a point is stored as the pair of its coordinates
-abbrev pub point_code : Coded Point
-point_code =
-    code_by (ℤ × ℤ) (coded× coded_ℤ coded_ℤ) (λ a. (a.x, a.y)) (λ p. record { x = p.0; y = p.1 }) (λ _. refl)
 
 -- the lists are stored as the two maps and the number
 abbrev pub pass_lists_code : Coded PassLists

@@ -5,8 +5,8 @@ use Rattle.std.specs.declared.cmp.Ordering.TheVariants.{Less}
 use Rattle.grid_core.specs.declared.point.Point.{Point}
 use Rattle.grid_core.specs.Name.{Label, label_cmp}
 use Rattle.pass_links.specs.declared.heads.Head.{Head}
-use Rattle.pass_links.specs.declared.seek.Before.{Before}
-use Rattle.pass_links.specs.declared.seek.Before.TheVariants as before
+use Rattle.pass_links.specs.declared.positions.Before.{Before}
+use Rattle.pass_links.specs.declared.positions.Before.TheVariants as before
 use Rattle.pass_links.specs.Chain.{end}
 use Rattle.pass_links.specs.Heads.{IsHeadPlace}
 

@@ -46,8 +46,8 @@ mod node;
 mod nodes;
 mod owner;
 mod passes;
+mod positions;
 mod room;
-mod seek;
 #[cfg(test)]
 mod tests;
 

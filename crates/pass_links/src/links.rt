@@ -12,13 +12,13 @@ ghost use Rattle.pass_links.specs.Lists.{pixels_from};
 ghost use Rattle.pass_links.specs.Heads.{Rise, segment_start, pixel_start};
 ghost use Rattle.pass_links.specs.Nodes.{stored_at};
 ghost use Rattle.pass_links.specs.Links.{PointsAlong, PointsAcross, TakesAlong, TakesAcross, HasHeadRoom, KeepsHeadRoom};
-ghost use Rattle.pass_links.specs.Seek.{IsThrough, node_before, IsHeadBefore};
+ghost use Rattle.pass_links.specs.Positions.{IsThrough, node_before, IsHeadBefore};
 ghost use Rattle.pass_links.specs.Filing.{AreFiled, AreLonger};
 
 use crate::heads::{Head, set_first};
 use crate::node::{Node, set_across, set_along, set_back_across, set_back_along};
 use crate::nodes::Nodes;
-use crate::seek::{Before, Seek, before_by_link, seek_across};
+use crate::positions::{Before, Position, before_by_link, position_across};
 use grid_core::{Name, Point};
 
 /// Lets `next` come behind a node of the segment's list, or first in it. The head of a list that
@@ -87,7 +87,7 @@ pub(crate) fn link_at(
     pixels: &mut Vec<Head<Point>>,
     name: Name,
     pixel: Point,
-    place: Seek,
+    place: Position,
 ) -> u32
     requires by_name { Rise label_cmp segments.old.items }
     requires by_pixel { Rise point_cmp pixels.old.items }
@@ -117,7 +117,7 @@ pub(crate) fn link_at(
     ensures len_by_name { vec_len segments.new ≤ vec_len segments.old + 1 }
     ensures len_by_pixel { vec_len pixels.new ≤ vec_len pixels.old + 1 }
 {
-    let across = seek_across(nodes, pixels, pixel, name);
+    let across = position_across(nodes, pixels, pixel, name);
     let key = nodes.insert(Node {
         name,
         pixel,

@@ -10,8 +10,8 @@ use crate::heads::{Head, find, set_first};
 use crate::links::{link_at, take_across, take_along};
 use crate::lists::{Across, Along};
 use crate::nodes::{END, Nodes};
+use crate::positions::{Before, Position, position_across, position_behind};
 use crate::room::{copied, room_left};
-use crate::seek::{Before, Seek, seek_across, seek_behind};
 use grid_core::{Memory, Name, Point};
 use std::alloc::Global;
 use std::marker::Model;
@@ -99,7 +99,7 @@ impl Passes {
     pub fn has(&self, name: Name, pixel: Point) -> bool
         ensures { result ≡ has_pixel (pixels_of self.now name) pixel }
     {
-        let place = seek_across(&self.nodes, &self.pixels, pixel, name);
+        let place = position_across(&self.nodes, &self.pixels, pixel, name);
         match self.nodes.get(place.at) {
             Some(node) => node.name == name,
             None => false,
@@ -144,7 +144,7 @@ impl Passes {
             → names_at self.new p ≡ names_at self.old p }
         ensures spare { self.new.spare + 1 ≡ self.old.spare }
     {
-        let place = seek_behind(&self.nodes, &self.segments, &self.pixels, name, after);
+        let place = position_behind(&self.nodes, &self.segments, &self.pixels, name, after);
         link_at(
             &mut self.nodes,
             &mut self.segments,
@@ -173,7 +173,7 @@ impl Passes {
             → names_at self.new p ≡ names_at self.old p }
         ensures spare { self.new.spare + length run.now ≡ self.old.spare }
     {
-        let mut place = seek_behind(&self.nodes, &self.segments, &self.pixels, name, after);
+        let mut place = position_behind(&self.nodes, &self.segments, &self.pixels, name, after);
         for pixel in run {
             let key = link_at(
                 &mut self.nodes,
@@ -183,7 +183,7 @@ impl Passes {
                 *pixel,
                 place,
             );
-            place = Seek {
+            place = Position {
                 before: Before::Node(key),
                 at: place.at,
             };

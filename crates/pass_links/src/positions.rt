@@ -8,7 +8,7 @@ ghost use Rattle.pass_links.specs.Chain.{end, IsFamily, is_of, IsPlace, key_of, 
 ghost use Rattle.pass_links.specs.Node.{along_at, across_at, name_at, pixel_at};
 ghost use Rattle.pass_links.specs.Heads.{Rise, segment_start, pixel_start};
 ghost use Rattle.pass_links.specs.Lists.{pixels_from, names_from};
-ghost use Rattle.pass_links.specs.Seek.{IsLesser, IsAtName, IsThrough, node_before, IsHeadBefore};
+ghost use Rattle.pass_links.specs.Positions.{IsLesser, IsAtName, IsThrough, node_before, IsHeadBefore};
 ghost use Rattle.pass_links.specs.Filing.{AreFiled};
 
 use crate::heads::{Head, find};
@@ -39,7 +39,7 @@ impl Before {
 
 /// A place in a list.
 #[derive(Clone, Copy)]
-pub(crate) struct Seek {
+pub(crate) struct Position {
     /// What comes before it.
     pub(crate) before: Before,
     /// The key of the node there, or `END`.
@@ -59,7 +59,12 @@ pub(crate) fn before_by_link<K: Owner>(heads: &[Head<K>], of: K, previous: u32) 
 }
 
 /// The first node in the pixel's list whose name isn't less than this one, or the list's end.
-pub(crate) fn seek_across(nodes: &Nodes, pixels: &[Head<Point>], pixel: Point, name: Name) -> Seek
+pub(crate) fn position_across(
+    nodes: &Nodes,
+    pixels: &[Head<Point>],
+    pixel: Point,
+    name: Name,
+) -> Position
     requires by_pixel { Rise point_cmp pixels.now }
     requires lists { IsFamily point_eq (across_at nodes.now.slots) (pixel_start pixels.now)
         (pixel_at nodes.now.slots) end }
@@ -74,31 +79,31 @@ pub(crate) fn seek_across(nodes: &Nodes, pixels: &[Head<Point>], pixel: Point, n
         ≡ is_of label_eq name (name_at nodes.now.slots result.at) }
 {
     let head = find(pixels, pixel);
-    let mut seek = Seek {
+    let mut position = Position {
         before: Before::Head(head.place),
         at: head.first,
     };
-    while let Some(node) = nodes.get(seek.at) {
+    while let Some(node) = nodes.get(position.at) {
         if node.name >= name {
             break;
         }
-        seek = Seek {
-            before: Before::Node(seek.at),
+        position = Position {
+            before: Before::Node(position.at),
             at: node.next_of_pixel,
         };
     }
-    seek
+    position
 }
 
 /// Where a pass of this segment goes that is put right behind its pass through `after`, or in front
 /// of its other passes.
-pub(crate) fn seek_behind(
+pub(crate) fn position_behind(
     nodes: &Nodes,
     segments: &[Head<Name>],
     pixels: &[Head<Point>],
     name: Name,
     after: Option<Point>,
-) -> Seek
+) -> Position
     requires by_name { Rise label_cmp segments.now }
     requires by_pixel { Rise point_cmp pixels.now }
     requires lists { AreFiled nodes.now.slots (segment_start segments.now)
@@ -113,14 +118,14 @@ pub(crate) fn seek_behind(
     match after {
         None => {
             let head = find(segments, name);
-            Seek {
+            Position {
                 before: Before::Head(head.place),
                 at: head.first,
             }
         }
         Some(after) => {
-            let before = seek_across(nodes, pixels, after, name).at;
-            Seek {
+            let before = position_across(nodes, pixels, after, name).at;
+            Position {
                 before: Before::Node(before),
                 at: nodes.value(before).next_of_segment,
             }

@@ -6,8 +6,8 @@ use Rattle.grid_core.specs.Vector.{point_eq}
 use Rattle.pass_links.specs.Chain.{IsPlace, key_of}
 use Rattle.pass_links.specs.Node.{across_of, back_across_of, pixel_of, node_at, across_at, pixel_at}
 use Rattle.pass_links.specs.Heads.{pixel_start}
-use Rattle.pass_links.specs.Seek.{node_before}
-use Rattle.pass_links.proofs.TestLaws.{point_decides}
+use Rattle.pass_links.specs.Positions.{node_before}
+use Rattle.grid_core.proofs.Comparisons.{point_decides}
 use Rattle.pass_links.proofs.FamilyLaws.{next_stored}
 use Rattle.pass_links.proofs.PlaceLaws.{behind_other, before_other, head_stored, head_kept}
 use Rattle.pass_links.proofs.WalkLaws.{has_node_at, before_placed, ended}

@@ -6,8 +6,8 @@ use Rattle.grid_core.specs.Name.{label_eq}
 use Rattle.pass_links.specs.Chain.{IsPlace, key_of}
 use Rattle.pass_links.specs.Node.{along_of, back_along_of, name_of, node_at, along_at, name_at}
 use Rattle.pass_links.specs.Heads.{segment_start}
-use Rattle.pass_links.specs.Seek.{node_before}
-use Rattle.pass_links.proofs.TestLaws.{label_decides}
+use Rattle.pass_links.specs.Positions.{node_before}
+use Rattle.grid_core.proofs.Comparisons.{label_decides}
 use Rattle.pass_links.proofs.FamilyLaws.{next_stored}
 use Rattle.pass_links.proofs.PlaceLaws.{behind_other, before_other, head_stored, head_kept}
 use Rattle.pass_links.proofs.WalkLaws.{has_node, before_named, ended}

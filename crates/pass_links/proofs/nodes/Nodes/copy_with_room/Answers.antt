@@ -2,7 +2,7 @@ use Rattle.std.proofs.Common.{◌≡◌, ap, ◌∙◌, length, arith}
 use Rattle.slab.specs.Slab.{Slab}
 use Rattle.pass_links.specs.declared.nodes.Links.{Links}
 use Rattle.pass_links.specs.Nodes.{Slots}
-use Rattle.pass_links.proofs.NodesLaws.{nodes_of_same}
+use Rattle.pass_links.proofs.StoredLaws.{nodes_of_same}
 use Rattle.pass_links.proofs.nodes.Nodes.copy_with_room.Goals as goal
 
 pub returns-clause-slots : goal.returns-clause-slots

@@ -1,5 +1,5 @@
 use Rattle.std.proofs.Common.{ap, sym, ◌∙◌, Some}
-use Rattle.pass_links.proofs.NodesLaws.{none_seen, some_seen}
+use Rattle.pass_links.proofs.StoredLaws.{none_seen, some_seen}
 use Rattle.pass_links.proofs.nodes.Nodes.get.Goals as goal
 
 pub returns-in_err-links : goal.returns-in_err-links

@@ -1,6 +1,6 @@
 use Rattle.std.proofs.Common.{Some, refl, ap, arith, subst, length-set}
 use Rattle.pass_links.specs.Nodes.{Changes}
-use Rattle.pass_links.proofs.NodesLaws.{none_seen, changes_seen}
+use Rattle.pass_links.proofs.StoredLaws.{none_seen, changes_seen}
 use Rattle.pass_links.proofs.nodes.Nodes.insert.Goals as goal
 
 pub returns-clause-was_vacant : goal.returns-clause-was_vacant

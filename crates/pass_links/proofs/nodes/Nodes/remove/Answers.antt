@@ -1,7 +1,7 @@
 use Rattle.std.proofs.Common.{arith}
 use Rattle.std.proofs.lemmas.List.{length-set}
 use Rattle.slab.proofs.SlabLemmas.{ContainsKey-within}
-use Rattle.pass_links.proofs.NodesLaws.{has_links, goes_seen}
+use Rattle.pass_links.proofs.StoredLaws.{has_links, goes_seen}
 use Rattle.pass_links.proofs.nodes.Nodes.remove.Goals as goal
 
 pub remove-requires : goal.remove-requires

@@ -2,7 +2,7 @@ use Rattle.std.proofs.Common.{◌≡◌, ◌≤◌, ◌+◌, ap, ◌∙◌, leng
 use Rattle.slab.specs.Slab.{Slab, slab_len}
 use Rattle.pass_links.specs.declared.nodes.Links.{Links}
 use Rattle.pass_links.specs.Nodes.{Slots}
-use Rattle.pass_links.proofs.NodesLaws.{nodes_of_same, begins_when_filled}
+use Rattle.pass_links.proofs.StoredLaws.{nodes_of_same, begins_when_filled}
 use Rattle.pass_links.proofs.nodes.Nodes.reserve.Goals as goal
 
 pub returns-clause-slots : goal.returns-clause-slots

@@ -3,7 +3,7 @@ use Rattle.std.proofs.lemmas.List.{length-set}
 use Rattle.slab.specs.Slab.{with_value}
 use Rattle.slab.proofs.SlabLemmas.{ContainsKey-within, Updates-with_value}
 use Rattle.pass_links.specs.Nodes.{Changes}
-use Rattle.pass_links.proofs.NodesLaws.{has_links, links_seen}
+use Rattle.pass_links.proofs.StoredLaws.{has_links, links_seen}
 use Rattle.pass_links.proofs.nodes.Nodes.set.Goals as goal
 
 pub index_mut-requires : goal.index_mut-requires

@@ -1,5 +1,5 @@
 use Rattle.std.proofs.Common.{ap, sym, ◌∙◌, Some}
-use Rattle.pass_links.proofs.NodesLaws.{has_links, some_seen}
+use Rattle.pass_links.proofs.StoredLaws.{has_links, some_seen}
 use Rattle.pass_links.proofs.nodes.Nodes.value.Goals as goal
 
 pub index-requires : goal.index-requires

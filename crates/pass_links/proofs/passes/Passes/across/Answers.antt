@@ -1,7 +1,7 @@
 use Rattle.std.proofs.Common.{◌≡◌, ap, sym, ◌∙◌, subst}
 use Rattle.pass_links.specs.Lists.{names_from, IsWalkAcross}
 use Rattle.pass_links.specs.Heads.{segment_start, pixel_start}
-use Rattle.pass_links.proofs.SeekLaws.{free_of}
+use Rattle.pass_links.proofs.PositionLaws.{free_of}
 use Rattle.pass_links.proofs.SeenLaws.{seen_names, seen_linked}
 use Rattle.pass_links.proofs.passes.Passes.across.Goals as goal
 use Rattle.pass_links.proofs.passes.Passes.across.Goals.{After-find}

@@ -1,7 +1,7 @@
 use Rattle.std.proofs.Common.{◌≡◌, ap, sym, ◌∙◌, subst}
 use Rattle.pass_links.specs.Lists.{pixels_from, IsWalkAlong}
 use Rattle.pass_links.specs.Heads.{segment_start}
-use Rattle.pass_links.proofs.SeekLaws.{free_of}
+use Rattle.pass_links.proofs.PositionLaws.{free_of}
 use Rattle.pass_links.proofs.SeenLaws.{seen_pixels, seen_linked}
 use Rattle.pass_links.proofs.passes.Passes.along.Goals as goal
 use Rattle.pass_links.proofs.passes.Passes.along.Goals.{After-find}

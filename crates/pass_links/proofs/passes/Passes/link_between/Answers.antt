@@ -8,14 +8,14 @@ use Rattle.pass_links.specs.Chain.{IsPlace}
 use Rattle.pass_links.specs.Node.{name_at, along_at}
 use Rattle.pass_links.specs.Heads.{segment_start, pixel_start}
 use Rattle.pass_links.specs.Lists.{pixels_from, names_from}
-use Rattle.pass_links.specs.Seek.{node_before}
+use Rattle.pass_links.specs.Positions.{node_before}
 use Rattle.pass_links.specs.Filing.{AreLonger}
 use Rattle.pass_links.proofs.SeenLaws.{seen, seen_pixels, seen_names}
 use Rattle.pass_links.proofs.passes.Passes.link_between.Goals as goal
 use Rattle.pass_links.proofs.passes.Passes.link_between.Goals.{After-link_at}
 
-pub seek_behind-place-requires-clause-behind : goal.seek_behind-place-requires-clause-behind
-seek_behind-place-requires-clause-behind c =
+pub position_behind-place-requires-clause-behind : goal.position_behind-place-requires-clause-behind
+position_behind-place-requires-clause-behind c =
     subst (λ ps. IfSome c.args.after (λ a. has_pixel ps a ≡ true))
     (seen_pixels c.self.inside.nodes.slots c.self.inside.segments.items c.self.inside.pixels.items c.args.self.now _ c.self.view_is c.args.name
     ∙ ap (λ hs. pixels_from c.self.inside.nodes.slots (segment_start hs c.args.name)) (sym c.deref.ensures.value))
@@ -24,7 +24,7 @@ seek_behind-place-requires-clause-behind c =
 pub link_at-requires-clause-place : goal.link_at-requires-clause-place
 link_at-requires-clause-place c =
     subst (λ hs. IsPlace (along_at c.self.inside.nodes.slots) (segment_start hs) (name_at c.self.inside.nodes.slots) c.args.name
-    (node_before c.seek_behind-place.result.before) c.seek_behind-place.result.at) c.deref.ensures.value c.seek_behind-place.ensures.place
+    (node_before c.position_behind-place.result.before) c.position_behind-place.result.at) c.deref.ensures.value c.position_behind-place.ensures.place
 
 pub link_at-requires-clause-fresh : goal.link_at-requires-clause-fresh
 link_at-requires-clause-fresh c =
@@ -36,7 +36,7 @@ link_at-requires-clause-fresh c =
 longer : (c : After-link_at) → AreLonger c.self.inside.nodes.slots c.link_at.new.nodes.slots
     (segment_start c.self.inside.segments.items) (segment_start c.link_at.new.segments.items)
     (pixel_start c.self.inside.pixels.items) (pixel_start c.link_at.new.pixels.items) c.args.name c.args.pixel c.args.after
-longer c = c.link_at.ensures.lists c.args.after c.seek_behind-place.ensures.through
+longer c = c.link_at.ensures.lists c.args.after c.position_behind-place.ensures.through
 
 -- the lists that were there
 was : (c : After-link_at) (n : Label) → pixels_of c.args.self.now n ≡ pixels_from c.self.inside.nodes.slots (segment_start c.self.inside.segments.items n)

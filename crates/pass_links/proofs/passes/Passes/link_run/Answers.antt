@@ -8,13 +8,13 @@ use Rattle.pass_links.specs.Chain.{IsPlace}
 use Rattle.pass_links.specs.Node.{name_at, along_at}
 use Rattle.pass_links.specs.Heads.{segment_start, pixel_start}
 use Rattle.pass_links.specs.Lists.{pixels_from}
-use Rattle.pass_links.specs.Seek.{IsHeadBefore, node_before}
+use Rattle.pass_links.specs.Positions.{IsHeadBefore, node_before}
 use Rattle.pass_links.proofs.SeenLaws.{seen, seen_pixels, seen_names}
 use Rattle.pass_links.proofs.RunLaws.{run_begun, run_more, run_linked}
 use Rattle.pass_links.proofs.passes.Passes.link_run.Goals as goal
 
-pub seek_behind-place-requires-clause-behind : goal.seek_behind-place-requires-clause-behind
-seek_behind-place-requires-clause-behind c =
+pub position_behind-place-requires-clause-behind : goal.position_behind-place-requires-clause-behind
+position_behind-place-requires-clause-behind c =
     subst (λ ps. IfSome c.args.after (λ a. has_pixel ps a ≡ true))
     (seen_pixels c.self.inside.nodes.slots c.self.inside.segments.items c.self.inside.pixels.items c.args.self.now _ c.self.view_is c.args.name
     ∙ ap (λ hs. pixels_from c.self.inside.nodes.slots (segment_start hs c.args.name)) (sym c.deref.ensures.value))
@@ -24,15 +24,15 @@ pub loop-pixel-init : goal.loop-pixel-init
 loop-pixel-init c = record {
   lists =
       run_begun c.args.name c.args.after c.args.run.now c.args.self.now c.self.inside.nodes.slots
-      (segment_start c.self.inside.segments.items) (pixel_start c.self.inside.pixels.items) (node_before c.seek_behind-place.result.before) c.seek_behind-place.result.at
+      (segment_start c.self.inside.segments.items) (pixel_start c.self.inside.pixels.items) (node_before c.position_behind-place.result.before) c.position_behind-place.result.at
       c.self.invariant.lists
       (subst (λ hs. IsPlace (along_at c.self.inside.nodes.slots) (segment_start hs) (name_at c.self.inside.nodes.slots) c.args.name
-      (node_before c.seek_behind-place.result.before) c.seek_behind-place.result.at) c.deref.ensures.value c.seek_behind-place.ensures.place)
-      c.seek_behind-place.ensures.through
+      (node_before c.position_behind-place.result.before) c.position_behind-place.result.at) c.deref.ensures.value c.position_behind-place.ensures.place)
+      c.position_behind-place.ensures.through
       (seen_pixels c.self.inside.nodes.slots c.self.inside.segments.items c.self.inside.pixels.items c.args.self.now _ c.self.view_is)
       (seen_names c.self.inside.nodes.slots c.self.inside.segments.items c.self.inside.pixels.items c.args.self.now _ c.self.view_is)
       c.requires.fresh;
-  head = subst (λ hs. IsHeadBefore label_cmp hs c.args.name c.seek_behind-place.result.before) c.deref.ensures.value c.seek_behind-place.ensures.head;
+  head = subst (λ hs. IsHeadBefore label_cmp hs c.args.name c.position_behind-place.result.before) c.deref.ensures.value c.position_behind-place.ensures.head;
   by_name = c.self.invariant.by_name;
   by_pixel = c.self.invariant.by_pixel;
   spare = ap (λ (v : PassLists). v.spare) c.self.view_is;

@@ -3,7 +3,7 @@ use Rattle.std.specs.Vec.{vec_len, vec_capacity}
 use Rattle.grid_core.specs.Name.{label_cmp}
 use Rattle.grid_core.specs.Vector.{point_cmp}
 use Rattle.pass_links.specs.Heads.{Rise, segment_start, pixel_start}
-use Rattle.pass_links.specs.Seek.{node_before, IsHeadBefore}
+use Rattle.pass_links.specs.Positions.{node_before, IsHeadBefore}
 use Rattle.pass_links.proofs.RunLaws.{LinksRun}
 use Rattle.pass_links.proofs.passes.Passes.link_run.Given as goal
 
