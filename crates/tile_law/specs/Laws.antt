@@ -34,11 +34,14 @@ pub record TilesAreMet (pr : Sizes) (s : Segment) : Type 0 where
   pub in_order : IsStrictlySortedBy tile_cmp (tiles pr s)
   pub met_along : (t : TileId) → Contains (along pr s) t ↔ IsTrue (meets_tile pr t s)
   pub in_order_along : IsStrictlySortedBy (along_tile_cmp s) (along pr s)
-  pub from_p_to_q : (t u : TileId) → along_tile_cmp s t u ≡ Less → MeetsBefore s (tile_box pr t) (tile_box pr u)
+  pub from_p_to_q : (t u : TileId)
+      → along_tile_cmp s t u ≡ Less
+      → MeetsBefore s (tile_box pr t) (tile_box pr u)
 
 -- a pixel that s meets lies in a tile that s meets
 abbrev pub PixelsLieInMetTiles : Sizes → Segment → Type 0
-PixelsLieInMetTiles pr s = (h : Point) → IsTrue (meets_pixel_of s h) → IsTrue (meets_tile pr (tile_of pr h) s)
+PixelsLieInMetTiles pr s =
+    (h : Point) → IsTrue (meets_pixel_of s h) → IsTrue (meets_tile pr (tile_of pr h) s)
 
 -- the column and the row of the tile are at most 16,384 in size
 pub record IsTileInReach (t : TileId) : Type 0 where
@@ -47,7 +50,8 @@ pub record IsTileInReach (t : TileId) : Type 0 where
 
 -- a segment within the profile's bound meets only tiles in reach
 abbrev pub MetTilesAreInReach : Sizes → Segment → Type 0
-MetTilesAreInReach pr s = IsSegment pr.bound s → (t : TileId) → IsTrue (meets_tile pr t s) → IsTileInReach t
+MetTilesAreInReach pr s =
+    IsSegment pr.bound s → (t : TileId) → IsTrue (meets_tile pr t s) → IsTileInReach t
 
 -- by x, and at one x by y, upwards, or downwards where the segment falls
 abbrev pub place_cmp : Segment → Point → Point → Ordering
@@ -67,7 +71,9 @@ PixelsStandByPlace s =
 -- two lists that have the same such segments have the same part
 pub record PartsAreLocal (pr : Sizes) (ss : List Segment) : Type 0 where
   pub by_near : (t : TileId) → part_of pr t ss ≡ part_of pr t (near pr t ss)
-  pub same : (us : List Segment) (t : TileId) → near pr t ss ≡ near pr t us → part_of pr t ss ≡ part_of pr t us
+  pub same : (us : List Segment) (t : TileId)
+      → near pr t ss ≡ near pr t us
+      → part_of pr t ss ≡ part_of pr t us
 
 -- the route of s is its pieces in the tiles that s meets, joined along s; where s is in the list,
 -- whose names rise, these pieces are what the parts have of s
@@ -77,7 +83,7 @@ pub record RouteIsJoined (pr : Sizes) (ss : List Segment) (s : Segment) : Type 0
       → Contains ss s
       → route ss s ≡ flat_map (λ t. route_in (part_of pr t ss) s.name) (along pr s)
 
--- the tiles stand there each once, and each tile that a segment of the list meets is one of them
+-- the tiles stand in the list each once, and each tile that a segment of the list meets is one of them
 pub record CoversTiles (pr : Sizes) (ss : List Segment) (ts : List TileId) : Type 0 where
   pub once : IsDistinct tile_eq ts
   pub all : (s : Segment) → Contains ss s → (t : TileId) → IsTrue (meets_tile pr t s) → Contains ts t

@@ -63,7 +63,8 @@ pub fn routes_are_joined(profile: &Profile, segments: &[Ur], s: &Ur)
 }
 
 /// The passes of a rounding are the sum of those of its parts, over tiles that have all segments.
-/// A change of some tiles changes it by what the passes of their parts change.
+/// Where two lists have the same segments in all other tiles, their passes differ by as much as those
+/// of the parts in these tiles.
 pub fn passes_add_up(profile: &Profile, segments: &[Ur])
     ensures { PassesAddUp profile.now segments.now }
 {
