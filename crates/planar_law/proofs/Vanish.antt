@@ -1,9 +1,8 @@
 -- Sums with multiples of numbers that are 0: how a polynomial is shown to be another where some
 -- differences are 0.
 
-use Rattle.std.proofs.Common.{◌≡◌, refl, ◌∙◌, arith, [], ◌∷◌}
+use Rattle.std.proofs.Common.{◌≡◌, refl, ◌∙◌, [], ◌∷◌}
 use Rattle.std.specs.Prelude.{ℤ, pos, ◌+ℤ◌, ◌-ℤ◌, ◌*ℤ◌}
-use Rattle.grid_core.proofs.Signed.{signed}
 use Rattle.grid_core.proofs.Polynomial.{V, K, ◌⊕◌, ◌⊖◌, ◌⊗◌, same_polynomial}
 
 -- what is a sum of multiples of numbers that are 0 is 0

@@ -6,8 +6,8 @@ use Rattle.grid_core.specs.Edge.{EdgeEnds}
 use Rattle.grid_core.specs.Rounding.{hot, edges, route_edges}
 use Rattle.grid_core.specs.Planar.{IsPlanar, IsNear}
 
--- two different edges have no point in common but a common end, and no hot pixel's centre lies inside
--- an edge
+-- two different edges have no point in common but a common end, and no hot pixel's centre lies
+-- inside an edge
 abbrev pub RoundingIsPlanar : List Segment → Type 0
 RoundingIsPlanar ss = IsPlanar (edges ss) (hot ss)
 

@@ -31,10 +31,11 @@ impl PlanarEdges {
     ghost use Rattle.std.specs.Prelude.{◌≡◌, ◌^◌};
     ghost use Rattle.planar_law.specs.PlanarEdges.{IsPlanarGraph, graph_of};
 
-    /// The graph of the rounding of these segments, from its edges and hot pixels in order. Takes no
-    /// memory.
+    /// The graph of the rounding of these segments, from its edges and its hot pixels, both in
+    /// order. Takes no memory.
     pub fn of(segments: &[Ur], edges: Vec<Edge>, vertices: Vec<Point>) -> PlanarEdges
-        requires { record { edges = edges.items; vertices = vertices.items } ≡ graph_of segments.now }
+        requires { record { edges = edges.items; vertices = vertices.items }
+            ≡ graph_of segments.now }
         ensures { result ≡ graph_of segments.now }
     {
         tell_bounds(segments);
