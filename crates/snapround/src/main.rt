@@ -1,4 +1,9 @@
 //! A drawing of straight segments that always shows as its snap rounding on the integer grid.
+//!
+//! The machine behind it has one editor, 1, and is a drawing (the live list of segments), one change
+//! that may be prepared, and three counts: of the commits, of the serials that were given, and of the
+//! insertions that were read. Each line of a script changes it and has its reply, or is bad and
+//! changes nothing. `specs/Machine` says what each command does, and `machine` does it.
 
 #![tactic(auto)]
 

@@ -31,7 +31,7 @@ impl<R: Env> Env for AfterName<'_, R> {
 
 /// The words after the program's name, which need not be UTF-8. A word that isn't UTF-8 is one that
 /// the program doesn't take.
-pub fn words(rt: &(impl Env + AllocGlobal)) -> Result<Vec<String>, Status> {
+pub(crate) fn words(rt: &(impl Env + AllocGlobal)) -> Result<Vec<String>, Status> {
     let after_name = AfterName { whole: rt };
     match env::args(&(after_name, rt.alloc())) {
         Ok(args) => args.collect(rt.alloc()).map_err(|_| Status::Memory),
