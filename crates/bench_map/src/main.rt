@@ -1,10 +1,14 @@
 //! Works a map hard, for its time to be taken from outside: it prints counts alone.
 //!
+//! Its tests are those of the map's public calls.
+//!
 //! The first word is the number of rounds, and the second names the work.
 
 #![tactic(auto)]
 
 mod keys;
+#[cfg(test)]
+mod tests;
 mod work;
 
 use std::env;

@@ -1,7 +1,6 @@
 //! Worked rows, that calls succeed with ample memory, and comparisons with std's map.
 
-use crate::Map;
-use crate::map::stopped::stopped;
+use radix_map::Map;
 use std::alloc::{AllocError, Global};
 use std::collections::BTreeMap;
 use std::sync::Arc;
@@ -248,15 +247,6 @@ impl Pair {
         Ok(())
     }
 
-    // Edits that are noted in the map, of which its tree has none.
-    fn note(mut self, edits: &[(u32, Option<Arc<u64>>)]) -> Result<Pair, Fail> {
-        self.edit_model(edits)?;
-        Ok(Pair {
-            map: stopped(self.map, edits)?,
-            model: self.model,
-        })
-    }
-
     // Whether the map has the entries of std's.
     fn agrees(&self, alloc: Global) -> Result<bool, Fail> {
         let wanted = self.wanted(alloc)?;
@@ -293,35 +283,9 @@ fn many_rising_edits_agree_with_a_sorted_map(rt: HostRuntime) -> Result<(), Fail
         for first in 0..3u32 {
             pair.edit_all(&rising_edits(alloc, step, first)?)?;
             assert!(rt; pair.agrees(alloc)?, "{name}");
+            assert!(rt; pair.agrees_at(alloc, &[0, step, 5, LAST])?, "{name}");
         }
         assert!(rt; listed(alloc, &kept)? == before, "{name}");
-    }
-    Ok(())
-}
-
-#[test]
-fn noted_edits_count_before_the_tree(rt: HostRuntime) -> Result<(), Fail> {
-    let alloc = rt.alloc();
-    for (name, step) in STEPS {
-        let edits = rising_edits(alloc, step, 1)?;
-        let pair = Pair::of_even_keys(alloc, step)?.note(&edits)?;
-        assert!(rt; pair.agrees(alloc)?, "{name}");
-        assert!(rt; pair.agrees_at(alloc, &[0, step, 5, LAST])?, "{name}");
-    }
-    Ok(())
-}
-
-#[test]
-fn edits_follow_noted_ones(rt: HostRuntime) -> Result<(), Fail> {
-    let alloc = rt.alloc();
-    for (name, step) in STEPS {
-        let edits = rising_edits(alloc, step, 1)?;
-        let mut pair = Pair::of_even_keys(alloc, step)?.note(&edits)?;
-        let next = rising_edits(alloc, step, 2)?;
-        let copy = pair.map.with_all(&next)?;
-        pair.edit_all(&next)?;
-        assert!(rt; pair.agrees(alloc)?, "{name}");
-        assert!(rt; listed(alloc, &copy)? == pair.wanted(alloc)?, "{name}");
     }
     Ok(())
 }

@@ -2,9 +2,9 @@
 use Rattle.std.proofs.Common.{◌≡◌, ℕ, ◌+◌, ◌*◌, ◌^◌, ◌<◌, ◌≤◌, List, [], ◌∷◌, ◌-◌, length, take, take_all, drop, length-drop, set, get_or, suc, zero, Option, Some, Result, Ok, Err, OnErr, IsSome, refl, sym, ap, ◌∙◌, arith}
 use Rattle.std.proofs.Math.Seq.{take-add, drop-cons}
 use Rattle.std.specs.declared.sync.Arc.{Arc}
-use Rattle.radix_map.specs.Entries.{edited_within, entries_of, Rises, InPlace, Counts}
+use Rattle.radix_map.specs.Entries.{edited_within, entries_of, Rises, InSlot, Counts}
 use Rattle.radix_map.specs.Pending.{IsCarried}
-use Rattle.radix_map.specs.Places.{item_at}
+use Rattle.radix_map.specs.Slots.{item_at}
 use Rattle.radix_map.proofs.Carried.{at_err}
 use Rattle.radix_map.proofs.Trees.{within-append, node_edited}
 use Rattle.radix_map.proofs.Edits.{IsChange}
@@ -76,20 +76,20 @@ carried_nothing w es now count noted e = record {
 pub stopped_before : {X E V Z : Type 0} (r : Result X E) (w : ℕ) (es : List (ℕ × V)) (count : ℕ) (noted : List (ℕ × Option (Arc V Z))) → OnErr r (IsCarried w es es count noted noted)
 stopped_before r w es count noted = at_err r (carried_nothing w es es count noted refl)
 
--- ---- into one place of a node
+-- ---- into one slot of a node
 
-place_first : {V Z : Type 0} (step i n m : ℕ) (xs : List (ℕ × Option (Arc V Z))) → m ≤ n → InPlace step i (take n xs) → InPlace step i (take m xs)
-place_first step i n zero xs l h = tt
-place_first step i zero (suc m) xs l h = absurd (omega arith)
-place_first step i (suc n) (suc m) [] l h = tt
-place_first step i (suc n) (suc m) (x ∷ xs) l h = (h.0, place_first step i n m xs (omega arith) h.1)
+slot_first : {V Z : Type 0} (step i n m : ℕ) (xs : List (ℕ × Option (Arc V Z))) → m ≤ n → InSlot step i (take n xs) → InSlot step i (take m xs)
+slot_first step i n zero xs l h = tt
+slot_first step i zero (suc m) xs l h = absurd (omega arith)
+slot_first step i (suc n) (suc m) [] l h = tt
+slot_first step i (suc n) (suc m) (x ∷ xs) l h = (h.0, slot_first step i n m xs (omega arith) h.1)
 
-pub change_part : {T V Z E X : Type 0} (r : Result X E) (f : T → List (ℕ × V)) (s : ℕ) → ((x : T) → Rises 0 (16 * 2 ^ s) (f x)) → (xs ys : List (Option T)) (shift i : ℕ) (a b : T) (n : ℕ) (noted left : List (ℕ × Option (Arc V Z))) → shift ≡ s + 4 → i < 16 → InPlace (2 ^ shift) i (take n noted) → IsChange xs ys i a b → OnErr r (IsCarried (16 * 2 ^ s) (f a) (f b) n noted left) → OnErr r (IsCarried (16 * 2 ^ (s + 4)) (entries_of f (2 ^ (s + 4)) xs) (entries_of f (2 ^ (s + 4)) ys) n noted left)
+pub change_part : {T V Z E X : Type 0} (r : Result X E) (f : T → List (ℕ × V)) (s : ℕ) → ((x : T) → Rises 0 (16 * 2 ^ s) (f x)) → (xs ys : List (Option T)) (shift i : ℕ) (a b : T) (n : ℕ) (noted left : List (ℕ × Option (Arc V Z))) → shift ≡ s + 4 → i < 16 → InSlot (2 ^ shift) i (take n noted) → IsChange xs ys i a b → OnErr r (IsCarried (16 * 2 ^ s) (f a) (f b) n noted left) → OnErr r (IsCarried (16 * 2 ^ (s + 4)) (entries_of f (2 ^ (s + 4)) xs) (entries_of f (2 ^ (s + 4)) ys) n noted left)
 change_part (Ok x) f s h xs ys shift i a b n noted left e l p c k = k
 change_part (Err x) f s h xs ys shift i a b n noted left e l p c k = record {
   done = k.done;
   few = k.few;
-  made = ap (entries_of f (2 ^ (s + 4))) c.is ∙ node_edited f s h xs shift i (Some a) (Some b) (take k.done noted) e l c.wide (place_first (2 ^ shift) i n k.done noted k.few p) (sym c.was) k.made;
+  made = ap (entries_of f (2 ^ (s + 4))) c.is ∙ node_edited f s h xs shift i (Some a) (Some b) (take k.done noted) e l c.wide (slot_first (2 ^ shift) i n k.done noted k.few p) (sym c.was) k.made;
   rest = k.rest;
 }
 

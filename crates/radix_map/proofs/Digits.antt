@@ -1,4 +1,4 @@
--- The places of a node when one of them changes, by induction on the place: its digit and its item change, and all others stay.
+-- The slots of a node when one of them changes, by induction on the slot: its digit and its item change, and all others stay.
 use Rattle.std.proofs.Common.{◌⊎◌, inl, inr, ◌≡◌, ℕ, zero, suc, ◌+◌, ◌-◌, ◌*◌, ◌/◌, ◌%◌, ◌^◌, ◌<◌, ◌≤◌, List, [], ◌∷◌, ◌++◌, length, set, Option, Some, None, option_to_list, refl, sym, ap, ◌∙◌, subst, arith, count_ones, replicate, is_some, take, drop, get_or, bit_and, bit_or}
 use Rattle.std.specs.Int.{bit_at, trailing_zeros}
 use mir.Syntax.{w32}
@@ -11,7 +11,7 @@ use Rattle.std.proofs.Math.Pow.{pow-lt}
 use lib.Bits.{or_add_and, and_comm}
 use lib.Arith.{mod-mul}
 use lib.Count.{ones, ones_step}
-use Rattle.radix_map.specs.Places.{first_if, rest_if, places_of, taken, item_at, digit_of, Replaces, IsNextDigit}
+use Rattle.radix_map.specs.Slots.{first_if, rest_if, slots_of, taken, item_at, digit_of, Replaces, IsNextDigit}
 
 pub pow_pos : (n : ℕ) → 0 < 2 ^ n
 pow_pos zero = omega arith
@@ -26,7 +26,8 @@ taken_ones (suc n) b =
     let e : m ≡ q * 2 + b % 2 = ap (λ (k : ℕ). b % k) (pow-suc 2 n) ∙ mod-mul b (pow_pos n) (omega arith) in
     let low : m % 2 ≡ b % 2 = omega arith in
     let high : m / 2 ≡ q = omega arith in
-    ones_step m ∙ ap (λ (k : ℕ). k + count_ones (m / 2)) low ∙ ap (λ (k : ℕ). b % 2 + count_ones k) high ∙ ap (λ (k : ℕ). b % 2 + k) (taken_ones n (b / 2))
+    ones_step m ∙ ap (λ (k : ℕ). k + count_ones (m / 2)) low ∙ ap (λ (k : ℕ). b % 2 + count_ones k) high
+    ∙ ap (λ (k : ℕ). b % 2 + k) (taken_ones n (b / 2))
 
 pub same_digit : (i p b : ℕ) → bit_at b i ≡ p → Replaces i p p b b
 same_digit zero p b h = let e : b % 2 ≡ p = sym (bit_at_lowest b) ∙ h in (e, e, refl)
@@ -68,48 +69,58 @@ rest_own : {T : Type 0} (o : Option T) (bs : List T) → rest_if (digit o) (opti
 rest_own None bs = refl
 rest_own (Some x) bs = refl
 
--- one more place below, of digit d
-below_more : {T : Type 0} (d k i : ℕ) (o w : Option T) (xs ys : List T) (f g : List T → List (Option T)) → d < 2 → length xs ≡ d + k → ((zs : List T) → length zs ≡ k → f (zs ++ (option_to_list w ++ ys)) ≡ set (g (zs ++ (option_to_list o ++ ys))) i w) → first_if d (xs ++ (option_to_list w ++ ys)) ∷ f (rest_if d (xs ++ (option_to_list w ++ ys))) ≡ first_if d (xs ++ (option_to_list o ++ ys)) ∷ set (g (rest_if d (xs ++ (option_to_list o ++ ys)))) i w
+-- one more slot below, of digit d
+below_more : {T : Type 0} (d k i : ℕ) (o w : Option T) (xs ys : List T) (f g : List T → List (Option T)) → d < 2
+    → length xs ≡ d + k
+    → ((zs : List T) → length zs ≡ k → f (zs ++ (option_to_list w ++ ys)) ≡ set (g (zs ++ (option_to_list o ++ ys))) i w)
+    → first_if d (xs ++ (option_to_list w ++ ys)) ∷ f (rest_if d (xs ++ (option_to_list w ++ ys))) ≡ first_if d (xs ++ (option_to_list o ++ ys)) ∷ set (g (rest_if d (xs ++ (option_to_list o ++ ys)))) i w
 below_more zero k i o w xs ys f g h e ih = ap (λ t. None ∷ t) (ih xs (omega arith))
 below_more (suc zero) k i o w [] ys f g h e ih = absurd (omega arith)
 below_more (suc zero) k i o w (x ∷ xs) ys f g h e ih = ap (λ t. Some x ∷ t) (ih xs (omega arith))
 below_more (suc (suc d)) k i o w xs ys f g h e ih = absurd (omega arith)
 
-pub places_replaced : {T : Type 0} (n i b c : ℕ) (o w : Option T) (xs ys : List T) → i < n → Replaces i (digit o) (digit w) b c → length xs ≡ taken i b → places_of n c (xs ++ (option_to_list w ++ ys)) ≡ set (places_of n b (xs ++ (option_to_list o ++ ys))) i w
-unfolding places_of taken
-places_replaced zero i b c o w xs ys h r e = absurd (omega arith)
-places_replaced (suc n) zero b c o w [] ys h r e =
+pub slots_replaced : {T : Type 0} (n i b c : ℕ) (o w : Option T) (xs ys : List T) → i < n
+    → Replaces i (digit o) (digit w) b c → length xs ≡ taken i b
+    → slots_of n c (xs ++ (option_to_list w ++ ys)) ≡ set (slots_of n b (xs ++ (option_to_list o ++ ys))) i w
+unfolding slots_of taken
+slots_replaced zero i b c o w xs ys h r e = absurd (omega arith)
+slots_replaced (suc n) zero b c o w [] ys h r e =
     let first : first_if (c % 2) (option_to_list w ++ ys) ≡ w = subst (λ d. first_if d (option_to_list w ++ ys) ≡ w) (sym r.1) (first_own w ys) in
     let rest : rest_if (c % 2) (option_to_list w ++ ys) ≡ rest_if (b % 2) (option_to_list o ++ ys) =
     subst (λ d. rest_if d (option_to_list w ++ ys) ≡ rest_if (b % 2) (option_to_list o ++ ys)) (sym r.1) (subst (λ d. rest_if (digit w) (option_to_list w ++ ys) ≡ rest_if d (option_to_list o ++ ys)) (sym r.0) (rest_own w ys ∙ sym (rest_own o ys))) in
-    ap (λ t. t ∷ places_of n (c / 2) (rest_if (c % 2) (option_to_list w ++ ys))) first ∙ ap (λ k. w ∷ places_of n k (rest_if (c % 2) (option_to_list w ++ ys))) (sym r.2) ∙ ap (λ zs. w ∷ places_of n (b / 2) zs) rest
-places_replaced (suc n) zero b c o w (x ∷ xs) ys h r e = absurd (omega arith)
-places_replaced (suc n) (suc i) b c o w xs ys h r e =
-    subst (λ d. first_if d (xs ++ (option_to_list w ++ ys)) ∷ places_of n (c / 2) (rest_if d (xs ++ (option_to_list w ++ ys))) ≡ first_if (b % 2) (xs ++ (option_to_list o ++ ys)) ∷ set (places_of n (b / 2) (rest_if (b % 2) (xs ++ (option_to_list o ++ ys)))) i w) r.0 (below_more (b % 2) (taken i (b / 2)) i o w xs ys (places_of n (c / 2)) (places_of n (b / 2)) (omega arith) e (λ zs k. places_replaced n i (b / 2) (c / 2) o w zs ys (omega arith) r.1 k))
+    ap (λ t. t ∷ slots_of n (c / 2) (rest_if (c % 2) (option_to_list w ++ ys))) first
+    ∙ ap (λ k. w ∷ slots_of n k (rest_if (c % 2) (option_to_list w ++ ys))) (sym r.2)
+    ∙ ap (λ zs. w ∷ slots_of n (b / 2) zs) rest
+slots_replaced (suc n) zero b c o w (x ∷ xs) ys h r e = absurd (omega arith)
+slots_replaced (suc n) (suc i) b c o w xs ys h r e =
+    subst (λ d. first_if d (xs ++ (option_to_list w ++ ys)) ∷ slots_of n (c / 2) (rest_if d (xs ++ (option_to_list w ++ ys))) ≡ first_if (b % 2) (xs ++ (option_to_list o ++ ys)) ∷ set (slots_of n (b / 2) (rest_if (b % 2) (xs ++ (option_to_list o ++ ys)))) i w) r.0 (below_more (b % 2) (taken i (b / 2)) i o w xs ys (slots_of n (c / 2)) (slots_of n (b / 2)) (omega arith) e (λ zs k. slots_replaced n i (b / 2) (c / 2) o w zs ys (omega arith) r.1 k))
 
-below_item : {T : Type 0} (d k i : ℕ) (o : Option T) (xs ys : List T) (f : List T → List (Option T)) → d < 2 → length xs ≡ d + k → ((zs : List T) → length zs ≡ k → item_at (f (zs ++ (option_to_list o ++ ys))) i ≡ o) → item_at (f (rest_if d (xs ++ (option_to_list o ++ ys)))) i ≡ o
+below_item : {T : Type 0} (d k i : ℕ) (o : Option T) (xs ys : List T) (f : List T → List (Option T)) → d < 2
+    → length xs ≡ d + k → ((zs : List T) → length zs ≡ k → item_at (f (zs ++ (option_to_list o ++ ys))) i ≡ o)
+    → item_at (f (rest_if d (xs ++ (option_to_list o ++ ys)))) i ≡ o
 below_item zero k i o xs ys f h e ih = ih xs (omega arith)
 below_item (suc zero) k i o [] ys f h e ih = absurd (omega arith)
 below_item (suc zero) k i o (x ∷ xs) ys f h e ih = ih xs (omega arith)
 below_item (suc (suc d)) k i o xs ys f h e ih = absurd (omega arith)
 
-pub item_own : {T : Type 0} (n i b : ℕ) (o : Option T) (xs ys : List T) → i < n → Replaces i (digit o) (digit o) b b → length xs ≡ taken i b → item_at (places_of n b (xs ++ (option_to_list o ++ ys))) i ≡ o
-unfolding places_of taken
+pub item_own : {T : Type 0} (n i b : ℕ) (o : Option T) (xs ys : List T) → i < n → Replaces i (digit o) (digit o) b b
+    → length xs ≡ taken i b → item_at (slots_of n b (xs ++ (option_to_list o ++ ys))) i ≡ o
+unfolding slots_of taken
 item_own zero i b o xs ys h r e = absurd (omega arith)
 item_own (suc n) zero b o [] ys h r e = subst (λ d. first_if d (option_to_list o ++ ys) ≡ o) (sym r.1) (first_own o ys)
 item_own (suc n) zero b o (x ∷ xs) ys h r e = absurd (omega arith)
 item_own (suc n) (suc i) b o xs ys h r e =
-    below_item (b % 2) (taken i (b / 2)) i o xs ys (places_of n (b / 2)) (omega arith) e (λ zs k. item_own n i (b / 2) o zs ys (omega arith) r.1 k)
+    below_item (b % 2) (taken i (b / 2)) i o xs ys (slots_of n (b / 2)) (omega arith) e (λ zs k. item_own n i (b / 2) o zs ys (omega arith) r.1 k)
 
-pub places-length : {T : Type 0} (n b : ℕ) (xs : List T) → length (places_of n b xs) ≡ n
-unfolding places_of
-places-length zero b xs = refl
-places-length (suc n) b xs = ap suc (places-length n (b / 2) (rest_if (b % 2) xs))
+pub slots-length : {T : Type 0} (n b : ℕ) (xs : List T) → length (slots_of n b xs) ≡ n
+unfolding slots_of
+slots-length zero b xs = refl
+slots-length (suc n) b xs = ap suc (slots-length n (b / 2) (rest_if (b % 2) xs))
 
-pub no_places : {T : Type 0} (n : ℕ) (xs : List T) → places_of n 0 xs ≡ replicate n None
-unfolding places_of
-no_places zero xs = refl
-no_places (suc n) xs = ap (λ t. None ∷ t) (no_places n xs)
+pub no_slots : {T : Type 0} (n : ℕ) (xs : List T) → slots_of n 0 xs ≡ replicate n None
+unfolding slots_of
+no_slots zero xs = refl
+no_slots (suc n) xs = ap (λ t. None ∷ t) (no_slots n xs)
 
 pub none_taken : (n : ℕ) → taken n 0 ≡ 0
 unfolding taken
@@ -133,28 +144,32 @@ split_own (suc r) d (x ∷ xs) h k =
 pub room : (n i b : ℕ) → i < n → taken i b + bit_at b i ≤ taken n b
 room n i b h = taken_below n i (bit_at b i) b h (same_digit i (bit_at b i) b refl)
 
--- place i, whose item stands at the number of taken places below it
-pub place_replaced : {T : Type 0} (n i b c : ℕ) (w : Option T) (xs : List T) → i < n → length xs ≡ taken n b → Replaces i (bit_at b i) (digit w) b c → places_of n c (take (taken i b) xs ++ (option_to_list w ++ drop (taken i b + bit_at b i) xs)) ≡ set (places_of n b xs) i w
-place_replaced n i b c w xs h e r =
+-- slot i, whose item stands at the number of taken slots below it
+pub slot_replaced : {T : Type 0} (n i b c : ℕ) (w : Option T) (xs : List T) → i < n → length xs ≡ taken n b
+    → Replaces i (bit_at b i) (digit w) b c
+    → slots_of n c (take (taken i b) xs ++ (option_to_list w ++ drop (taken i b + bit_at b i) xs)) ≡ set (slots_of n b xs) i w
+slot_replaced n i b c w xs h e r =
     let d = bit_at b i in
     let k = room n i b h in
     let o = split_own (taken i b) d xs (bit_at-lt b i) (omega arith) in
     let l : length (take (taken i b) xs) ≡ taken i b = length-take-le (taken i b) xs (omega arith) in
-    places_replaced n i b c o.0 w _ _ h (subst (λ p. Replaces i p (digit w) b c) (sym o.1) r) l ∙ ap (λ zs. set (places_of n b zs) i w) (sym o.2)
+    slots_replaced n i b c o.0 w _ _ h (subst (λ p. Replaces i p (digit w) b c) (sym o.1) r) l ∙ ap (λ zs. set (slots_of n b zs) i w) (sym o.2)
 
-pub free_place : {T : Type 0} (n i b : ℕ) (xs : List T) → i < n → length xs ≡ taken n b → bit_at b i ≡ 0 → item_at (places_of n b xs) i ≡ None
-free_place n i b xs h e z =
+pub free_slot : {T : Type 0} (n i b : ℕ) (xs : List T) → i < n → length xs ≡ taken n b → bit_at b i ≡ 0 → item_at (slots_of n b xs) i ≡ None
+free_slot n i b xs h e z =
     let k = room n i b h in
     let l : length (take (taken i b) xs) ≡ taken i b = length-take-le (taken i b) xs (omega arith) in
-    ap (λ zs. item_at (places_of n b zs) i) (sym (take-append-drop (taken i b) xs)) ∙ item_own n i b None _ _ h (same_digit i 0 b z) l
+    ap (λ zs. item_at (slots_of n b zs) i) (sym (take-append-drop (taken i b) xs)) ∙ item_own n i b None _ _ h (same_digit i 0 b z) l
 
-pub taken_place : {T : Type 0} (n i b : ℕ) (x : T) (xs : List T) → i < n → length xs ≡ taken n b → bit_at b i ≡ 1 → x ≡ get_or xs (taken i b) x → item_at (places_of n b xs) i ≡ Some x
-taken_place n i b x xs h e z g =
+pub taken_slot : {T : Type 0} (n i b : ℕ) (x : T) (xs : List T) → i < n → length xs ≡ taken n b → bit_at b i ≡ 1
+    → x ≡ get_or xs (taken i b) x → item_at (slots_of n b xs) i ≡ Some x
+taken_slot n i b x xs h e z g =
     let k = room n i b h in
     let l : length (take (taken i b) xs) ≡ taken i b = length-take-le (taken i b) xs (omega arith) in
     let s : xs ≡ take (taken i b) xs ++ (x ∷ drop (suc (taken i b)) xs) =
-    sym (take-append-drop (taken i b) xs) ∙ ap (λ t. take (taken i b) xs ++ t) (drop-cons xs (taken i b) x (omega arith) ∙ ap (λ y. y ∷ drop (suc (taken i b)) xs) (sym g)) in
-    ap (λ zs. item_at (places_of n b zs) i) s ∙ item_own n i b (Some x) _ _ h (same_digit i 1 b z) l
+    sym (take-append-drop (taken i b) xs)
+    ∙ ap (λ t. take (taken i b) xs ++ t) (drop-cons xs (taken i b) x (omega arith) ∙ ap (λ y. y ∷ drop (suc (taken i b)) xs) (sym g)) in
+    ap (λ zs. item_at (slots_of n b zs) i) s ∙ item_own n i b (Some x) _ _ h (same_digit i 1 b z) l
 
 pub taken-le : (n b : ℕ) → taken n b ≤ n
 unfolding taken

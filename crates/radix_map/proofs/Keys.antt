@@ -47,7 +47,8 @@ pub value-raised : {V : Type 0} (b k : ℕ) (es : List (ℕ × V)) → value_at 
 unfolding raised
 value-raised b k [] = refl
 value-raised b k (e ∷ es) =
-    ap (λ r. cond (is_eq r) (Some e.1) (value_at (b + k) (raised b es))) (cmp_raised b k e.0) ∙ ap (λ t. cond (is_eq (nat_cmp k e.0)) (Some e.1) t) (value-raised b k es)
+    ap (λ r. cond (is_eq r) (Some e.1) (value_at (b + k) (raised b es))) (cmp_raised b k e.0)
+    ∙ ap (λ t. cond (is_eq (nat_cmp k e.0)) (Some e.1) t) (value-raised b k es)
 
 -- ---- a key set
 
@@ -57,7 +58,8 @@ with_below k a b v (e ∷ es) h l =
     let first = h.0 in
     ap (λ r. match_ordering r ((k, v) ∷ e ∷ es) ((e.0, v) ∷ es) (e ∷ with_key es k v)) (cmp_less k e.0 (omega arith))
 
-put_at : {V : Type 0} (r : Ordering) (k : ℕ) (v : V) (e : ℕ × V) (xs ys zs ws : List (ℕ × V)) → ws ≡ zs ++ ys → match_ordering r ((k, v) ∷ e ∷ (xs ++ ys)) ((e.0, v) ∷ (xs ++ ys)) (e ∷ ws) ≡ match_ordering r ((k, v) ∷ e ∷ xs) ((e.0, v) ∷ xs) (e ∷ zs) ++ ys
+put_at : {V : Type 0} (r : Ordering) (k : ℕ) (v : V) (e : ℕ × V) (xs ys zs ws : List (ℕ × V)) → ws ≡ zs ++ ys
+    → match_ordering r ((k, v) ∷ e ∷ (xs ++ ys)) ((e.0, v) ∷ (xs ++ ys)) (e ∷ ws) ≡ match_ordering r ((k, v) ∷ e ∷ xs) ((e.0, v) ∷ xs) (e ∷ zs) ++ ys
 put_at Less k v e xs ys zs ws h = refl
 put_at Equal k v e xs ys zs ws h = refl
 put_at Greater k v e xs ys zs ws h = ap (λ t. e ∷ t) h
@@ -70,9 +72,12 @@ with-append_right : {V : Type 0} (k a b : ℕ) (v : V) (xs ys : List (ℕ × V))
 with-append_right k a b v [] ys h l = refl
 with-append_right k a b v (e ∷ xs) ys h l =
     let n = rises_order (e.0 + 1) b xs h.1 in
-    ap (λ r. match_ordering r ((k, v) ∷ e ∷ (xs ++ ys)) ((e.0, v) ∷ (xs ++ ys)) (e ∷ with_key (xs ++ ys) k v)) (cmp_greater k e.0 (omega arith)) ∙ ap (λ t. e ∷ t) (with-append_right k (e.0 + 1) b v xs ys h.1 l)
+    ap (λ r. match_ordering r ((k, v) ∷ e ∷ (xs ++ ys)) ((e.0, v) ∷ (xs ++ ys)) (e ∷ with_key (xs ++ ys) k v)) (cmp_greater k e.0 (omega arith))
+    ∙ ap (λ t. e ∷ t) (with-append_right k (e.0 + 1) b v xs ys h.1 l)
 
-put_raised : {V : Type 0} (r : Ordering) (b k : ℕ) (v : V) (e : ℕ × V) (es zs : List (ℕ × V)) (ws : List (ℕ × V)) → ws ≡ raised b zs → match_ordering r ((b + k, v) ∷ (b + e.0, e.1) ∷ raised b es) ((b + e.0, v) ∷ raised b es) ((b + e.0, e.1) ∷ ws) ≡ raised b (match_ordering r ((k, v) ∷ e ∷ es) ((e.0, v) ∷ es) (e ∷ zs))
+put_raised : {V : Type 0} (r : Ordering) (b k : ℕ) (v : V) (e : ℕ × V) (es zs : List (ℕ × V)) (ws : List (ℕ × V))
+    → ws ≡ raised b zs
+    → match_ordering r ((b + k, v) ∷ (b + e.0, e.1) ∷ raised b es) ((b + e.0, v) ∷ raised b es) ((b + e.0, e.1) ∷ ws) ≡ raised b (match_ordering r ((k, v) ∷ e ∷ es) ((e.0, v) ∷ es) (e ∷ zs))
 unfolding raised
 put_raised Less b k v e es zs ws h = refl
 put_raised Equal b k v e es zs ws h = refl
@@ -82,7 +87,8 @@ with-raised : {V : Type 0} (b k : ℕ) (v : V) (es : List (ℕ × V)) → with_k
 unfolding raised
 with-raised b k v [] = refl
 with-raised b k v (e ∷ es) =
-    ap (λ r. match_ordering r ((b + k, v) ∷ (b + e.0, e.1) ∷ raised b es) ((b + e.0, v) ∷ raised b es) ((b + e.0, e.1) ∷ with_key (raised b es) (b + k) v)) (cmp_raised b k e.0) ∙ put_raised (nat_cmp k e.0) b k v e es (with_key es k v) (with_key (raised b es) (b + k) v) (with-raised b k v es)
+    ap (λ r. match_ordering r ((b + k, v) ∷ (b + e.0, e.1) ∷ raised b es) ((b + e.0, v) ∷ raised b es) ((b + e.0, e.1) ∷ with_key (raised b es) (b + k) v)) (cmp_raised b k e.0)
+    ∙ put_raised (nat_cmp k e.0) b k v e es (with_key es k v) (with_key (raised b es) (b + k) v) (with-raised b k v es)
 
 -- ---- a key removed
 
@@ -90,7 +96,8 @@ pub without_below : {V : Type 0} (k a b : ℕ) (es : List (ℕ × V)) → Rises 
 without_below k a b [] h l = refl
 without_below k a b (e ∷ es) h l =
     let first = h.0 in
-    ap (λ r. cond (is_eq r) es (e ∷ without_key es k)) (cmp_less k e.0 (omega arith)) ∙ ap (λ t. e ∷ t) (without_below k (e.0 + 1) b es h.1 (omega arith))
+    ap (λ r. cond (is_eq r) es (e ∷ without_key es k)) (cmp_less k e.0 (omega arith))
+    ∙ ap (λ t. e ∷ t) (without_below k (e.0 + 1) b es h.1 (omega arith))
 
 cond-append : {V : Type 0} (t : Bool) (e : ℕ × V) (xs ys zs ws : List (ℕ × V)) → ws ≡ zs ++ ys → cond t (xs ++ ys) (e ∷ ws) ≡ cond t xs (e ∷ zs) ++ ys
 cond-append true e xs ys zs ws h = refl
@@ -104,9 +111,11 @@ without-append_right : {V : Type 0} (k a b : ℕ) (xs ys : List (ℕ × V)) → 
 without-append_right k a b [] ys h l = refl
 without-append_right k a b (e ∷ xs) ys h l =
     let n = rises_order (e.0 + 1) b xs h.1 in
-    ap (λ r. cond (is_eq r) (xs ++ ys) (e ∷ without_key (xs ++ ys) k)) (cmp_greater k e.0 (omega arith)) ∙ ap (λ t. e ∷ t) (without-append_right k (e.0 + 1) b xs ys h.1 l)
+    ap (λ r. cond (is_eq r) (xs ++ ys) (e ∷ without_key (xs ++ ys) k)) (cmp_greater k e.0 (omega arith))
+    ∙ ap (λ t. e ∷ t) (without-append_right k (e.0 + 1) b xs ys h.1 l)
 
-cond-raised : {V : Type 0} (t : Bool) (b : ℕ) (e : ℕ × V) (es zs ws : List (ℕ × V)) → ws ≡ raised b zs → cond t (raised b es) ((b + e.0, e.1) ∷ ws) ≡ raised b (cond t es (e ∷ zs))
+cond-raised : {V : Type 0} (t : Bool) (b : ℕ) (e : ℕ × V) (es zs ws : List (ℕ × V)) → ws ≡ raised b zs
+    → cond t (raised b es) ((b + e.0, e.1) ∷ ws) ≡ raised b (cond t es (e ∷ zs))
 unfolding raised
 cond-raised true b e es zs ws h = refl
 cond-raised false b e es zs ws h = ap (λ t. (b + e.0, e.1) ∷ t) h
@@ -115,15 +124,18 @@ without-raised : {V : Type 0} (b k : ℕ) (es : List (ℕ × V)) → without_key
 unfolding raised
 without-raised b k [] = refl
 without-raised b k (e ∷ es) =
-    ap (λ r. cond (is_eq r) (raised b es) ((b + e.0, e.1) ∷ without_key (raised b es) (b + k))) (cmp_raised b k e.0) ∙ cond-raised (is_eq (nat_cmp k e.0)) b e es (without_key es k) (without_key (raised b es) (b + k)) (without-raised b k es)
+    ap (λ r. cond (is_eq r) (raised b es) ((b + e.0, e.1) ∷ without_key (raised b es) (b + k))) (cmp_raised b k e.0)
+    ∙ cond-raised (is_eq (nat_cmp k e.0)) b e es (without_key es k) (without_key (raised b es) (b + k)) (without-raised b k es)
 
 -- ---- either edit
 
-pub edited-append_left : {V : Type 0} (k b c : ℕ) (o : Option V) (xs ys : List (ℕ × V)) → Rises b c ys → k < b → edited (xs ++ ys) k o ≡ edited xs k o ++ ys
+pub edited-append_left : {V : Type 0} (k b c : ℕ) (o : Option V) (xs ys : List (ℕ × V)) → Rises b c ys → k < b
+    → edited (xs ++ ys) k o ≡ edited xs k o ++ ys
 edited-append_left k b c None xs ys h l = without-append_left k b c xs ys h l
 edited-append_left k b c (Some v) xs ys h l = with-append_left k b c v xs ys h l
 
-pub edited-append_right : {V : Type 0} (k a b : ℕ) (o : Option V) (xs ys : List (ℕ × V)) → Rises a b xs → b ≤ k → edited (xs ++ ys) k o ≡ xs ++ edited ys k o
+pub edited-append_right : {V : Type 0} (k a b : ℕ) (o : Option V) (xs ys : List (ℕ × V)) → Rises a b xs → b ≤ k
+    → edited (xs ++ ys) k o ≡ xs ++ edited ys k o
 edited-append_right k a b None xs ys h l = without-append_right k a b xs ys h l
 edited-append_right k a b (Some v) xs ys h l = with-append_right k a b v xs ys h l
 

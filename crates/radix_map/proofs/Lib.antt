@@ -4,6 +4,7 @@ pub mod Copied
 pub mod Digits
 pub mod Edits
 pub mod Keys
+pub mod Laws
 pub mod Leaves
 pub mod Noted
 pub mod Roots

@@ -7,16 +7,16 @@ use Rattle.std.proofs.lemmas.Bool.{ltb-true, ltb-false}
 use Rattle.std.specs.Arc.{arc_value}
 use Rattle.std.specs.declared.sync.Arc.{Arc}
 use Rattle.std.specs.Ordering.{match_ordering}
-use Rattle.radix_map.specs.Entries.{value_at, with_key, without_key, edited, edited_all, Rises, KeysFit}
+use Rattle.radix_map.specs.Entries.{value_at, with_key, without_key, edited, edited_all, Rises, KeysFit, keys_end}
 use Rattle.radix_map.specs.Pending.{told, StartsAbove, IsPast}
 use Rattle.radix_map.specs.Rising.{rises_lower}
 use Rattle.radix_map.proofs.Keys.{value_below, rises_order, edited-append_right, with_below, without_below}
 use Rattle.radix_map.proofs.Trees.{edited_rises}
 use Rattle.radix_map.proofs.Values.{same_key, key_equal, key_greater, value_edited, own_value}
 
-pub fit_from_rises : {V Z : Type 0} (a : ℕ) (ps : List (ℕ × Option (Arc V Z))) → Rises a 4294967296 ps → KeysFit ps
+pub fit_from_rises : {V Z : Type 0} (a : ℕ) (ps : List (ℕ × Option (Arc V Z))) → Rises a keys_end ps → KeysFit ps
 fit_from_rises a [] h = tt
-fit_from_rises a (p ∷ ps) h = let l = rises_order (p.0 + 1) 4294967296 ps h.1 in (omega arith, fit_from_rises (p.0 + 1) ps h.1)
+fit_from_rises a (p ∷ ps) h = let l = rises_order (p.0 + 1) keys_end ps h.1 in (omega arith, fit_from_rises (p.0 + 1) ps h.1)
 
 -- ---- the value at a key
 
@@ -25,24 +25,30 @@ abbrev pub edit_or : {V Z : Type 0} → Option (Option (Arc V Z)) → Option V �
 edit_or None o = o
 edit_or (Some e) o = option_map arc_value e
 
-noted_first : {V Z : Type 0} (k b : ℕ) (e : ℕ × Option (Arc V Z)) (ps : List (ℕ × Option (Arc V Z))) (u : Option V) (t : Bool) → is_eq (nat_cmp k e.0) ≡ t → Rises (e.0 + 1) b ps → edit_or (value_at k ps) (cond t (option_map arc_value e.1) u) ≡ edit_or (cond t (Some e.1) (value_at k ps)) u
+noted_first : {V Z : Type 0} (k b : ℕ) (e : ℕ × Option (Arc V Z)) (ps : List (ℕ × Option (Arc V Z))) (u : Option V) (t : Bool)
+    → is_eq (nat_cmp k e.0) ≡ t → Rises (e.0 + 1) b ps
+    → edit_or (value_at k ps) (cond t (option_map arc_value e.1) u) ≡ edit_or (cond t (Some e.1) (value_at k ps)) u
 noted_first k b e ps u true q h =
     let at = same_key k e.0 q in
     ap (λ o. edit_or o (option_map arc_value e.1)) (value_below k (e.0 + 1) b ps h (omega arith))
 noted_first k b e ps u false q h = refl
 
-pub value_noted : {V Z : Type 0} (k a b : ℕ) (es : List (ℕ × V)) (ps : List (ℕ × Option (Arc V Z))) → Rises 0 b es → Rises a b ps → value_at k (edited_all es ps) ≡ edit_or (value_at k ps) (value_at k es)
+pub value_noted : {V Z : Type 0} (k a b : ℕ) (es : List (ℕ × V)) (ps : List (ℕ × Option (Arc V Z))) → Rises 0 b es
+    → Rises a b ps → value_at k (edited_all es ps) ≡ edit_or (value_at k ps) (value_at k es)
 unfolding edited_all
 value_noted k a b es [] h g = refl
 value_noted k a b es (p ∷ ps) h g =
     let o = option_map arc_value p.1 in
     let l = rises_order (p.0 + 1) b ps g.1 in
-    value_noted k (p.0 + 1) b (edited es p.0 o) ps (edited_rises b p.0 o es (omega arith) h) g.1 ∙ ap (edit_or (value_at k ps)) (value_edited k p.0 b o es h) ∙ noted_first k b p ps (value_at k es) (is_eq (nat_cmp k p.0)) refl g.1
+    value_noted k (p.0 + 1) b (edited es p.0 o) ps (edited_rises b p.0 o es (omega arith) h) g.1
+    ∙ ap (edit_or (value_at k ps)) (value_edited k p.0 b o es h)
+    ∙ noted_first k b p ps (value_at k es) (is_eq (nat_cmp k p.0)) refl g.1
 
 -- ---- the first entry
 
 -- an entry below all edits stays in front
-pub first_stays : {V Z : Type 0} (k b : ℕ) (v : V) (es : List (ℕ × V)) (ps : List (ℕ × Option (Arc V Z))) → Rises (k + 1) b ps → edited_all ((k, v) ∷ es) ps ≡ (k, v) ∷ edited_all es ps
+pub first_stays : {V Z : Type 0} (k b : ℕ) (v : V) (es : List (ℕ × V)) (ps : List (ℕ × Option (Arc V Z)))
+    → Rises (k + 1) b ps → edited_all ((k, v) ∷ es) ps ≡ (k, v) ∷ edited_all es ps
 unfolding edited_all
 first_stays k b v es [] h = refl
 first_stays k b v es (p ∷ ps) h =
@@ -50,7 +56,8 @@ first_stays k b v es (p ∷ ps) h =
     let low = h.0 in
     let below : k ≤ k = omega arith in
     let end : k + 1 ≤ k + 1 = omega arith in
-    ap (λ t. edited_all t ps) (edited-append_right p.0 k (k + 1) o ((k, v) ∷ []) es (below, end) low) ∙ first_stays k b v (edited es p.0 o) ps (rises_lower (k + 1) (p.0 + 1) b ps (omega arith) h.1)
+    ap (λ t. edited_all t ps) (edited-append_right p.0 k (k + 1) o ((k, v) ∷ []) es (below, end) low)
+    ∙ first_stays k b v (edited es p.0 o) ps (rises_lower (k + 1) (p.0 + 1) b ps (omega arith) h.1)
 
 -- an edit below all entries, or at the first of them
 pub edited_above : {V : Type 0} (k b : ℕ) (o : Option V) (es : List (ℕ × V)) → Rises (k + 1) b es → edited es k o ≡ edited [] k o ++ es
@@ -84,22 +91,28 @@ behind_past {V} k b es rest l h (inr p) =
     }
 
 -- an entry of the tree comes first
-pub tree_first : {V Z : Type 0} (b k : ℕ) (v : V) (es : List (ℕ × V)) (ps : List (ℕ × Option (Arc V Z))) (p : ℕ × Option (Arc V Z)) (later : List (ℕ × Option (Arc V Z))) → ps ≡ p ∷ later → k < p.0 → Rises 0 b ps → edited_all ((k, v) ∷ es) ps ≡ (k, v) ∷ edited_all es ps
+pub tree_first : {V Z : Type 0} (b k : ℕ) (v : V) (es : List (ℕ × V)) (ps : List (ℕ × Option (Arc V Z))) (p : ℕ × Option (Arc V Z)) (later : List (ℕ × Option (Arc V Z)))
+    → ps ≡ p ∷ later → k < p.0 → Rises 0 b ps → edited_all ((k, v) ∷ es) ps ≡ (k, v) ∷ edited_all es ps
 tree_first b k v es ps p later e l h =
     let all : Rises 0 b (p ∷ later) = subst (Rises 0 b) e h in
     let above : Rises (k + 1) b (p ∷ later) = (omega arith, all.1) in
     first_stays k b v es ps (subst (Rises (k + 1) b) (sym e) above)
 
 -- an edit comes first, which sets its key or removes it
-pub edit_first : {V Z : Type 0} (b : ℕ) (v : V) (es rest : List (ℕ × V)) (ps : List (ℕ × Option (Arc V Z))) (p : ℕ × Option (Arc V Z)) (later : List (ℕ × Option (Arc V Z))) → ps ≡ p ∷ later → Rises 0 b es → Rises 0 b ps → IsPast p.0 es rest → Some v ≡ option_map arc_value p.1 → edited_all es ps ≡ (p.0, v) ∷ edited_all rest later
+pub edit_first : {V Z : Type 0} (b : ℕ) (v : V) (es rest : List (ℕ × V)) (ps : List (ℕ × Option (Arc V Z))) (p : ℕ × Option (Arc V Z)) (later : List (ℕ × Option (Arc V Z)))
+    → ps ≡ p ∷ later → Rises 0 b es → Rises 0 b ps → IsPast p.0 es rest → Some v ≡ option_map arc_value p.1
+    → edited_all es ps ≡ (p.0, v) ∷ edited_all rest later
 unfolding edited_all
 edit_first b v es rest ps p later e h g past o =
     let all : Rises 0 b (p ∷ later) = subst (Rises 0 b) e g in
     let low = rises_order (p.0 + 1) b later all.1 in
     let behind = behind_past p.0 b es rest (omega arith) h past in
-    ap (edited_all es) e ∙ ap (λ t. edited_all (edited es p.0 t) later) (sym o) ∙ ap (λ t. edited_all t later) (behind.edit (Some v)) ∙ first_stays p.0 b v rest later all.1
+    ap (edited_all es) e ∙ ap (λ t. edited_all (edited es p.0 t) later) (sym o)
+    ∙ ap (λ t. edited_all t later) (behind.edit (Some v)) ∙ first_stays p.0 b v rest later all.1
 
-pub edit_skipped : {V Z : Type 0} (b : ℕ) (es rest : List (ℕ × V)) (ps : List (ℕ × Option (Arc V Z))) (p : ℕ × Option (Arc V Z)) (later : List (ℕ × Option (Arc V Z))) → ps ≡ p ∷ later → Rises 0 b es → Rises 0 b ps → IsPast p.0 es rest → None ≡ option_map arc_value p.1 → edited_all es ps ≡ edited_all rest later
+pub edit_skipped : {V Z : Type 0} (b : ℕ) (es rest : List (ℕ × V)) (ps : List (ℕ × Option (Arc V Z))) (p : ℕ × Option (Arc V Z)) (later : List (ℕ × Option (Arc V Z)))
+    → ps ≡ p ∷ later → Rises 0 b es → Rises 0 b ps → IsPast p.0 es rest → None ≡ option_map arc_value p.1
+    → edited_all es ps ≡ edited_all rest later
 unfolding edited_all
 edit_skipped b es rest ps p later e h g past o =
     let all : Rises 0 b (p ∷ later) = subst (Rises 0 b) e g in
@@ -118,7 +131,8 @@ rises_key b es e later q h = let all : Rises 0 b (e ∷ later) = subst (Rises 0 
 
 -- ---- only keys and values of edits matter
 
-pub edited_as_told : {V Z Y : Type 0} (es : List (ℕ × V)) (ps : List (ℕ × Option (Arc V Z))) (qs : List (ℕ × Option (Arc V Y))) → map told ps ≡ map told qs → edited_all es ps ≡ edited_all es qs
+pub edited_as_told : {V Z Y : Type 0} (es : List (ℕ × V)) (ps : List (ℕ × Option (Arc V Z))) (qs : List (ℕ × Option (Arc V Y)))
+    → map told ps ≡ map told qs → edited_all es ps ≡ edited_all es qs
 unfolding edited_all
 edited_as_told es [] [] e = refl
 edited_as_told es [] (q ∷ qs) e = cc
@@ -128,7 +142,8 @@ edited_as_told es (p ∷ ps) (q ∷ qs) e =
     let rest : map told ps ≡ map told qs = cc in
     ap (λ (t : _). edited_all (edited es t.0 t.1) ps) first ∙ edited_as_told (edited es q.0 (option_map arc_value q.1)) ps qs rest
 
-pub rises_as_told : {V Z Y : Type 0} (a b : ℕ) (ps : List (ℕ × Option (Arc V Z))) (qs : List (ℕ × Option (Arc V Y))) → map told ps ≡ map told qs → Rises a b qs → Rises a b ps
+pub rises_as_told : {V Z Y : Type 0} (a b : ℕ) (ps : List (ℕ × Option (Arc V Z))) (qs : List (ℕ × Option (Arc V Y)))
+    → map told ps ≡ map told qs → Rises a b qs → Rises a b ps
 rises_as_told a b [] [] e h = h
 rises_as_told a b [] (q ∷ qs) e h = cc
 rises_as_told a b (p ∷ ps) [] e h = cc
@@ -140,7 +155,8 @@ rises_as_told a b (p ∷ ps) (q ∷ qs) e h =
 
 -- ---- whether edits rise, one after another
 
-pub rises_more : {V : Type 0} (a b : ℕ) (es : List (ℕ × V)) (i : ℕ) (d : ℕ × V) → i < length es → Rises a b (take i es) → b ≤ (get_or es i d).0 → Rises a ((get_or es i d).0 + 1) (take (suc i) es)
+pub rises_more : {V : Type 0} (a b : ℕ) (es : List (ℕ × V)) (i : ℕ) (d : ℕ × V) → i < length es → Rises a b (take i es)
+    → b ≤ (get_or es i d).0 → Rises a ((get_or es i d).0 + 1) (take (suc i) es)
 rises_more a b [] i d l h k = absurd (omega arith)
 rises_more a b (e ∷ es) zero d l h k = (omega arith, omega arith)
 rises_more a b (e ∷ es) (suc i) d l h k = (h.0, rises_more (e.0 + 1) b es i d (omega arith) h.1 k)
@@ -152,7 +168,8 @@ rises_at a b i [] d h l = absurd (omega arith)
 rises_at a b zero (e ∷ es) d h l = h.0
 rises_at a b (suc i) (e ∷ es) d h l = let first = h.0 in let k = rises_at (e.0 + 1) b i es d h.1 (omega arith) in omega arith
 
-rises_by : {V : Type 0} (a b : ℕ) (es : List (ℕ × V)) → Rises a b es → (i j : ℕ) (d : ℕ × V) → i ≤ j → j < length es → (get_or es i d).0 ≤ (get_or es j d).0
+rises_by : {V : Type 0} (a b : ℕ) (es : List (ℕ × V)) → Rises a b es → (i j : ℕ) (d : ℕ × V) → i ≤ j → j < length es
+    → (get_or es i d).0 ≤ (get_or es j d).0
 rises_by a b [] h i j d l n = absurd (omega arith)
 rises_by a b (e ∷ es) h zero zero d l n = omega arith
 rises_by a b (e ∷ es) h zero (suc j) d l n = let k = rises_at (e.0 + 1) b j es d h.1 (omega arith) in omega arith
@@ -162,16 +179,20 @@ rises_by a b (e ∷ es) h (suc i) (suc j) d l n = rises_by (e.0 + 1) b es h.1 i 
 pub rising_parted : {V : Type 0} (a b k : ℕ) (es : List (ℕ × V)) → Rises a b es → IsPartitionedBy (λ e. nat_lt e.0 k) es
 rising_parted a b k es h = IsPartitionedBy-ltb (λ e. e.0) es k (rises_by a b es h)
 
-pub value_found : {V : Type 0} (a b k i : ℕ) (es : List (ℕ × V)) (e : ℕ × V) → Rises a b es → i < length es → e ≡ get_or es i e → e.0 ≡ k → Some e.1 ≡ value_at k es
+pub value_found : {V : Type 0} (a b k i : ℕ) (es : List (ℕ × V)) (e : ℕ × V) → Rises a b es → i < length es
+    → e ≡ get_or es i e → e.0 ≡ k → Some e.1 ≡ value_at k es
 value_found a b k i [] e h l q p = absurd (omega arith)
 value_found a b k zero (x ∷ es) e h l q p =
     sym (own_value e.0 e.1 es) ∙ ap (λ (t : _). value_at e.0 (t ∷ es)) q ∙ ap (λ n. value_at n (x ∷ es)) p
 value_found a b k (suc i) (x ∷ es) e h l q p =
     let at : x.0 + 1 ≤ (get_or es i e).0 = rises_at (x.0 + 1) b i es e h.1 (omega arith) in
     let same : (get_or es i e).0 ≡ e.0 = ap (λ (t : _). t.0) (sym q) in
-    value_found (x.0 + 1) b k i es e h.1 (omega arith) q p ∙ sym (ap (λ r. cond (is_eq r) (Some x.1) (value_at k es)) (key_greater k x.0 (omega arith)))
+    value_found (x.0 + 1) b k i es e h.1 (omega arith) q p
+    ∙ sym (ap (λ r. cond (is_eq r) (Some x.1) (value_at k es)) (key_greater k x.0 (omega arith)))
 
-missing_by : {V : Type 0} (a b k i : ℕ) (es : List (ℕ × V)) → Rises a b es → ((j : ℕ) (d : ℕ × V) → j < i → j < length es → (get_or es j d).0 < k) → ((d : ℕ × V) → i < length es → k < (get_or es i d).0) → None ≡ value_at k es
+missing_by : {V : Type 0} (a b k i : ℕ) (es : List (ℕ × V)) → Rises a b es
+    → ((j : ℕ) (d : ℕ × V) → j < i → j < length es → (get_or es j d).0 < k)
+    → ((d : ℕ × V) → i < length es → k < (get_or es i d).0) → None ≡ value_at k es
 missing_by a b k i [] h low high = refl
 missing_by a b k zero (x ∷ es) h low high =
     let l : k < x.0 = high x (omega arith) in
@@ -179,9 +200,12 @@ missing_by a b k zero (x ∷ es) h low high =
     sym (value_below k x.0 b (x ∷ es) (from, h.1) l)
 missing_by a b k (suc i) (x ∷ es) h low high =
     let l : x.0 < k = low zero x (omega arith) (omega arith) in
-    missing_by (x.0 + 1) b k i es h.1 (λ j d n m. low (suc j) d (omega arith) (omega arith)) (λ d n. high d (omega arith)) ∙ sym (ap (λ r. cond (is_eq r) (Some x.1) (value_at k es)) (key_greater k x.0 l))
+    missing_by (x.0 + 1) b k i es h.1 (λ j d n m. low (suc j) d (omega arith) (omega arith)) (λ d n. high d (omega arith))
+    ∙ sym (ap (λ r. cond (is_eq r) (Some x.1) (value_at k es)) (key_greater k x.0 l))
 
-pub value_missing : {V : Type 0} (a b k i : ℕ) (es : List (ℕ × V)) → Rises a b es → i ≤ length es → IsPartitionPoint (λ e. nat_lt e.0 k ≡ true) (λ e. nat_lt e.0 k ≡ false) es i → ((d : ℕ × V) → i < length es → (get_or es i d).0 ≡ k → ⊥) → None ≡ value_at k es
+pub value_missing : {V : Type 0} (a b k i : ℕ) (es : List (ℕ × V)) → Rises a b es → i ≤ length es
+    → IsPartitionPoint (λ e. nat_lt e.0 k ≡ true) (λ e. nat_lt e.0 k ≡ false) es i
+    → ((d : ℕ × V) → i < length es → (get_or es i d).0 ≡ k → ⊥) → None ≡ value_at k es
 value_missing a b k i es h l parts other =
     missing_by a b k i es h (λ j d n m. ltb-true (get_or es j d).0 k (parts.0 j d (omega arith) n)) (λ d n. let low = ltb-false (get_or es i d).0 k (parts.1 i d (omega arith) n) in let ne = other d n in omega arith)
 
@@ -191,11 +215,14 @@ pub no_items : {X : Type 0} (xs : List X) → length xs ≡ 0 → xs ≡ []
 no_items [] e = refl
 no_items (x ∷ xs) e = absurd (omega arith)
 
-pub last_first : {V Z R : Type 0} (r : Option R) (f : R → ℕ × V) (start old new : List (ℕ × V)) (ps : List (ℕ × Option (Arc V Z))) → ps ≡ [] → edited_all old ps ≡ start → MatchOption r ((old ≡ []) × (new ≡ [])) (λ p. old ≡ f p ∷ new) → MatchOption r ((start ≡ []) × (edited_all new ps ≡ [])) (λ p. start ≡ f p ∷ edited_all new ps)
+pub last_first : {V Z R : Type 0} (r : Option R) (f : R → ℕ × V) (start old new : List (ℕ × V)) (ps : List (ℕ × Option (Arc V Z)))
+    → ps ≡ [] → edited_all old ps ≡ start → MatchOption r ((old ≡ []) × (new ≡ [])) (λ p. old ≡ f p ∷ new)
+    → MatchOption r ((start ≡ []) × (edited_all new ps ≡ [])) (λ p. start ≡ f p ∷ edited_all new ps)
 unfolding edited_all
 last_first None f start old new ps e s (h, k) = (sym s ∙ ap (edited_all old) e ∙ h, ap (edited_all new) e ∙ k)
 last_first (Some p) f start old new ps e s h = sym s ∙ ap (edited_all old) e ∙ h ∙ ap (λ t. f p ∷ t) (sym (ap (edited_all new) e))
 
-pub last_rises : {V R : Type 0} (r : Option R) (f : R → ℕ × V) (b : ℕ) (old new : List (ℕ × V)) → MatchOption r ((old ≡ []) × (new ≡ [])) (λ p. old ≡ f p ∷ new) → Rises 0 b old → Rises 0 b new
+pub last_rises : {V R : Type 0} (r : Option R) (f : R → ℕ × V) (b : ℕ) (old new : List (ℕ × V))
+    → MatchOption r ((old ≡ []) × (new ≡ [])) (λ p. old ≡ f p ∷ new) → Rises 0 b old → Rises 0 b new
 last_rises None f b old new (h, k) g = subst (Rises 0 b) (h ∙ sym k) g
 last_rises (Some p) f b old new h g = rises_later b old (f p) new h g

@@ -6,6 +6,10 @@ use Rattle.std.specs.Ordering.{nat_cmp}
 use Rattle.std.specs.Map.{lookup, remove_entry}
 use Rattle.std.specs.BTreeMap.{insert_entry, is_at}
 
+-- keys are below this number
+abbrev pub keys_end : ℕ
+keys_end = 2 ^ 32
+
 -- the value at key k
 abbrev pub value_at : {V : Type 0} → ℕ → List (ℕ × V) → Option V
 value_at k es = lookup (is_at (nat_cmp k)) es
@@ -48,24 +52,24 @@ unfoldable pub joined : {V : Type 0} → ℕ → ℕ → List (List (ℕ × V)) 
 joined step base [] = []
 joined step base (es ∷ ess) = raised base es ++ joined step (base + step) ess
 
--- the entries of a place, where f tells those of an item: none of a free place
+-- the entries of a slot, where f tells those of an item: none of a free slot
 abbrev pub part : {T V : Type 0} → (T → List (ℕ × V)) → Option T → List (ℕ × V)
 part f None = []
 part f (Some x) = f x
 
--- the entries of sixteen places, each for step keys
+-- the entries of sixteen slots, each for step keys
 unfoldable pub entries_of : {T V : Type 0} → (T → List (ℕ × V)) → ℕ → List (Option T) → List (ℕ × V)
 entries_of f step xs = joined step 0 (map (part f) (take 16 xs))
 
--- the entry of a value that stands alone in its place
+-- the entry of a value that stands alone in its slot
 abbrev pub single : {V : Type 0} → V → List (ℕ × V)
 single v = (0, v) ∷ []
 
--- the entries of a leaf's places
+-- the entries of a leaf's slots
 abbrev pub leaf_map : {V : Type 0} → List (Option V) → List (ℕ × V)
 leaf_map xs = entries_of single 1 xs
 
--- the entries of a node's places, where f tells those of a child, which places a key by the four bits from s on
+-- the entries of a node's slots, where f tells those of a child, which places a key by the four bits from s on
 abbrev pub node_map : {T V : Type 0} → (T → List (ℕ × V)) → ℕ → List (Option T) → List (ℕ × V)
 node_map f s xs = entries_of f (2 ^ (s + 4)) xs
 
@@ -73,15 +77,15 @@ node_map f s xs = entries_of f (2 ^ (s + 4)) xs
 abbrev pub block : ℕ → ℕ
 block s = 16 * 2 ^ s
 
--- each edit's key is below 2 ^ 32
+-- each edit's key is below the end of keys
 abbrev pub KeysFit : {V Z : Type 0} → List (ℕ × Option (Arc V Z)) → Type 0
 KeysFit [] = Unit {0}
-KeysFit (e ∷ edits) = (e.0 < 4294967296) × KeysFit edits
+KeysFit (e ∷ edits) = (e.0 < keys_end) × KeysFit edits
 
--- each edit's key lies in place i, where a place has step keys
-abbrev pub InPlace : {V Z : Type 0} → ℕ → ℕ → List (ℕ × Option (Arc V Z)) → Type 0
-InPlace step i [] = Unit {0}
-InPlace step i (e ∷ edits) = (e.0 / step % 16 ≡ i) × InPlace step i edits
+-- each edit's key lies in slot i, where a slot has step keys
+abbrev pub InSlot : {V Z : Type 0} → ℕ → ℕ → List (ℕ × Option (Arc V Z)) → Type 0
+InSlot step i [] = Unit {0}
+InSlot step i (e ∷ edits) = (e.0 / step % 16 ≡ i) × InSlot step i edits
 
 -- n entries became m, where some were added and some removed
 abbrev pub Counts : ℕ → ℕ → ℕ → ℕ → Type 0
@@ -94,14 +98,14 @@ pub record IsEdited {V Z : Type 0} (width : ℕ) (old new : List (ℕ × V)) (ed
   pub few_added : added ≤ length edits
   pub few_removed : removed ≤ length edits
 
--- the edits are a run in place i, which is not empty, and the rest
+-- the edits are a run in slot i, which is not empty, and the rest
 pub record IsFirstRun {V Z : Type 0} (step : ℕ) (edits : List (ℕ × Option (Arc V Z))) (i : ℕ) (run rest : List (ℕ × Option (Arc V Z))) : Type 0 where
-  pub place : i < 16
-  pub within : InPlace step i run
+  pub slot : i < 16
+  pub within : InSlot step i run
   pub fit : KeysFit run
   pub some : 0 < length run
   pub all : edits ≡ run ++ rest
 
--- the entries of the places from i on, each for step keys, where place 0 is for those from base on
+-- the entries of the slots from i on, each for step keys, where slot 0 is for those from base on
 unfoldable pub entries_behind : {T V : Type 0} → (T → List (ℕ × V)) → ℕ → ℕ → ℕ → List (Option T) → List (ℕ × V)
 entries_behind f step base i xs = joined step (base + i * step) (map (part f) (drop i (take 16 xs)))

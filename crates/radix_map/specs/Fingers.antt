@@ -7,6 +7,7 @@ use Rattle.radix_map.specs.declared.find.BlockLeaf.{BlockLeaf}
 use Rattle.radix_map.specs.declared.find.NodeFinger.{NodeFinger}
 use Rattle.radix_map.specs.Map.{leaf_entries, node_entries}
 use Rattle.radix_map.specs.Inner.{IsFingerOf, IsLeafOf}
+use Rattle.radix_map.specs.Entries.{keys_end}
 
 -- the entries of a node above leaves, where a path ends
 abbrev pub end_found : {V : Type 0} → Bor (Node (Leaf V)) → List (ℕ × V)
@@ -22,7 +23,7 @@ end_path f = Unit {0}
 
 -- a path into a node is sound where it leads into the child that it says
 abbrev pub node_path : {T F V : Type 0} → (F → Type 0) → (F → List (ℕ × V)) → (T → List (ℕ × V)) → NodeFinger T F → Type 0
-node_path P found f w = IsFingerOf P found f w.node.now.places w.at w.inner
+node_path P found f w = IsFingerOf P found f w.node.now.slots w.at w.inner
 
 abbrev pub RootFinger : Type 0 → Type 0
 RootFinger V =
@@ -52,4 +53,4 @@ root_sound w =
 -- the leaf that is kept, if one is, is that of its block in entries es
 abbrev pub IsKeptOf : {V : Type 0} → List (ℕ × V) → Option (BlockLeaf V) → Type 0
 IsKeptOf es None = Unit {0}
-IsKeptOf es (Some kept) = IsLeafOf 4294967296 es kept.block (option_copied kept.leaf)
+IsKeptOf es (Some kept) = IsLeafOf keys_end es kept.block (option_copied kept.leaf)

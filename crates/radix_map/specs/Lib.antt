@@ -3,6 +3,6 @@ pub mod Fingers
 pub mod Inner
 pub mod Map
 pub mod Pending
-pub mod Places
+pub mod Slots
 pub mod Rising
 pub mod Walks

@@ -1,4 +1,4 @@
--- Why the entries of a leaf and of a node rise: those of a place stay within its keys, and the places stand in a row.
+-- Private, proofs that members of `Level` cite. Why the entries of a leaf and of a node rise: those of a slot stay within its keys, and the slots stand in a row.
 use Rattle.std.specs.Prelude.{◌≡◌, ℕ, ◌+◌, ◌*◌, ◌^◌, ◌≤◌, Option, Some, None, List, [], ◌∷◌, ◌++◌, length, map, take}
 use Rattle.std.proofs.Common.{arith, subst, length-take, sym, ◌∙◌}
 use Rattle.std.proofs.Math.Nat.{mul-le-mul_right, mul_comm}
@@ -63,7 +63,7 @@ rises-single v = (omega arith, omega arith)
 pub leaf_rises : {V : Type 0} (xs : List (Option V)) → Rises 0 (16 * 2 ^ 0) (entries_of single 1 xs)
 leaf_rises xs = rises-of single 1 rises-single xs
 
--- 16 times the keys of a place that ends at bit s
+-- 16 times the keys of a slot that ends at bit s
 pub pow_16 : (s : ℕ) → 2 ^ (s + 4) ≡ 16 * 2 ^ s
 pow_16 s = pow-add 2 s 4 ∙ mul_comm (2 ^ s) 16
 

@@ -5,25 +5,25 @@ use Rattle.radix_map.specs.declared.level.Leaf.{Leaf}
 use Rattle.radix_map.specs.declared.level.Node.{Node}
 use Rattle.radix_map.specs.declared.entries.LeafWalk.{LeafWalk}
 use Rattle.radix_map.specs.declared.entries.NodeWalk.{NodeWalk}
-use Rattle.radix_map.specs.Entries.{entries_behind, part, single}
+use Rattle.radix_map.specs.Entries.{entries_behind, part, single, keys_end}
 use Rattle.radix_map.specs.Map.{leaf_entries, node_entries}
 use Rattle.radix_map.specs.Inner.{inner_sound}
 
 -- what is left of a walk over a leaf
 abbrev pub leaf_left : {V : Type 0} → LeafWalk V → List (ℕ × V)
-leaf_left w = entries_behind single 1 w.base w.at w.leaf.now.places
+leaf_left w = entries_behind single 1 w.base w.at w.leaf.now.slots
 
 -- what is left of a walk over a node, where f tells the entries of a child and g what is left of a walk over one
 abbrev pub node_left : {T W V : Type 0} → (T → List (ℕ × V)) → (W → List (ℕ × V)) → ℕ → NodeWalk T W → List (ℕ × V)
-node_left f g s w = part g w.inner ++ entries_behind f (2 ^ (s + 4)) w.base w.at w.node.now.places
+node_left f g s w = part g w.inner ++ entries_behind f (2 ^ (s + 4)) w.base w.at w.node.now.slots
 
 -- a walk over a leaf stays within the keys
 abbrev pub leaf_sound : {V : Type 0} → LeafWalk V → Type 0
-leaf_sound w = (w.base + 16 ≤ 4294967296) × (w.at ≤ 16)
+leaf_sound w = (w.base + 16 ≤ keys_end) × (w.at ≤ 16)
 
 -- so does a walk over a node, where P says so of a walk over a child
 abbrev pub node_sound : {T W : Type 0} → (W → Type 0) → ℕ → NodeWalk T W → Type 0
-node_sound P s w = (w.base + 16 * 2 ^ (s + 4) ≤ 4294967296) × (w.at ≤ 16) × inner_sound P w.inner
+node_sound P s w = (w.base + 16 * 2 ^ (s + 4) ≤ keys_end) × (w.at ≤ 16) × inner_sound P w.inner
 
 abbrev pub RootWalk : Type 0 → Type 0
 RootWalk V =

@@ -2,7 +2,7 @@
 
 ghost use Rattle.std.specs.Prelude.{◌≡◌, ℕ, ◌+◌, ◌*◌, ◌^◌, ◌<◌, ◌≤◌, ◌∷◌, List, [], ◌++◌, MatchOption};
 ghost use Rattle.std.specs.Prelude.{IfNone, IfSome};
-ghost use Rattle.radix_map.specs.Entries.{raised, entries_behind, part, single, edited_all, Rises};
+ghost use Rattle.radix_map.specs.Entries.{raised, entries_behind, part, single, edited_all, Rises, keys_end};
 ghost use Rattle.radix_map.specs.Pending.{IsPast};
 ghost use Rattle.radix_map.specs.Map.{root_entries};
 ghost use Rattle.std.specs.Iterator.{YieldsFirstBy, item_count};
@@ -40,18 +40,18 @@ pub struct Entries<'a, V> {
 
 impl<'a, V> Model for Entries<'a, V> {
     ghost use Rattle.std.specs.Prelude.{ℕ, List};
-    ghost use Rattle.radix_map.specs.Entries.{edited_all, Rises};
+    ghost use Rattle.radix_map.specs.Entries.{edited_all, Rises, keys_end};
 
     ghost Value = { List (ℕ × V) };
 
     ghost view = { λ e. edited_all e.tree e.pending.now };
 
-    ghost invariant = { λ e. Rises 0 4294967296 e.tree × Rises 0 4294967296 e.pending.now };
+    ghost invariant = { λ e. Rises 0 keys_end e.tree × Rises 0 keys_end e.pending.now };
 }
 
 impl<'a, V: Drop> Entries<'a, V> {
     pub(crate) fn of(root: &'a Root<V>, pending: &'a [Edit<V>]) -> Entries<'a, V>
-        requires { Rises 0 4294967296 pending.now }
+        requires { Rises 0 keys_end pending.now }
         ensures { result ≡ edited_all (root_entries root.now) pending.now }
     {
         Entries {
@@ -78,14 +78,14 @@ fn first_edited<'a, V: Drop>(
     tree: &mut TreeEntries<'a, V>,
     pending: &mut &'a [Edit<V>],
 ) -> Option<(u32, &'a V)>
-    requires tree { Rises 0 4294967296 tree.old }
-    requires edits { Rises 0 4294967296 pending.old.now }
+    requires tree { Rises 0 keys_end tree.old }
+    requires edits { Rises 0 keys_end pending.old.now }
     ensures first { MatchOption result ((edited_all tree.old pending.old.now ≡ [])
         × (edited_all tree.new pending.new.now ≡ []))
         (λ p. edited_all tree.old pending.old.now
         ≡ (p.0, p.1.now) ∷ edited_all tree.new pending.new.now) }
-    ensures tree { Rises 0 4294967296 tree.new }
-    ensures edits { Rises 0 4294967296 pending.new.now }
+    ensures tree { Rises 0 keys_end tree.new }
+    ensures edits { Rises 0 keys_end pending.new.now }
 {
     while let Some((edit, later)) = pending.split_first() {
         match tree.next_before(edit.0) {
@@ -181,7 +181,7 @@ pub(crate) trait Walk<'a, V, L: Level<V>>: Drop {
 
     /// A walk over all entries of the node, whose keys are counted from `base`.
     fn begin(node: &'a L, base: u32) -> Self
-        requires { base + 16 * 2 ^ L.bits ≤ 4294967296 }
+        requires { base + 16 * 2 ^ L.bits ≤ keys_end }
         ensures left { left result ≡ raised base (L.entries node.now) }
         ensures sound { sound result };
 
@@ -195,7 +195,7 @@ pub(crate) trait Walk<'a, V, L: Level<V>>: Drop {
         ensures sound { sound self.new };
 }
 
-/// A walk over a leaf: the values at place `at` and behind it are left.
+/// A walk over a leaf: the values at slot `at` and behind it are left.
 #[derive(Drop)]
 pub(crate) struct LeafWalk<'a, V> {
     leaf: &'a Leaf<V>,
@@ -203,7 +203,7 @@ pub(crate) struct LeafWalk<'a, V> {
     base: u32,
 }
 
-/// A walk over a node: what is left of one child, and the children at place `at` and behind it.
+/// A walk over a node: what is left of one child, and the children at slot `at` and behind it.
 #[derive(Drop)]
 pub(crate) struct NodeWalk<'a, L, W> {
     node: &'a Node<L>,
@@ -213,9 +213,9 @@ pub(crate) struct NodeWalk<'a, L, W> {
 }
 
 impl<'a, V: Drop> Walk<'a, V, Leaf<V>> for LeafWalk<'a, V> {
-    ghost left = { λ w. entries_behind single 1 w.base w.at w.leaf.now.places };
+    ghost left = { λ w. entries_behind single 1 w.base w.at w.leaf.now.slots };
 
-    ghost sound = { λ w. (w.base + 16 ≤ 4294967296) × (w.at ≤ 16) };
+    ghost sound = { λ w. (w.base + 16 ≤ keys_end) × (w.at ≤ 16) };
 
     fn begin(node: &'a Leaf<V>, base: u32) -> Self {
         LeafWalk {
@@ -226,7 +226,7 @@ impl<'a, V: Drop> Walk<'a, V, Leaf<V>> for LeafWalk<'a, V> {
     }
 
     fn step(&mut self, _shift: u32) -> Option<(u32, &'a V)> {
-        match self.leaf.places.next(self.at) {
+        match self.leaf.slots.next(self.at) {
             Some((n, value)) => {
                 self.at = n + 1;
                 Some((self.base + n, value))
@@ -238,9 +238,9 @@ impl<'a, V: Drop> Walk<'a, V, Leaf<V>> for LeafWalk<'a, V> {
 
 impl<'a, V: Drop, L: Level<V>, W: Walk<'a, V, L>> Walk<'a, V, Node<L>> for NodeWalk<'a, L, W> {
     ghost left = { λ w. part W.left w.inner
-        ++ entries_behind L.entries (2 ^ (L.bits + 4)) w.base w.at w.node.now.places };
+        ++ entries_behind L.entries (2 ^ (L.bits + 4)) w.base w.at w.node.now.slots };
 
-    ghost sound = { λ w. (w.base + 16 * 2 ^ (L.bits + 4) ≤ 4294967296)
+    ghost sound = { λ w. (w.base + 16 * 2 ^ (L.bits + 4) ≤ keys_end)
         × (w.at ≤ 16) × inner_sound W.sound w.inner };
 
     fn begin(node: &'a Node<L>, base: u32) -> Self {
@@ -258,7 +258,7 @@ impl<'a, V: Drop, L: Level<V>, W: Walk<'a, V, L>> Walk<'a, V, Node<L>> for NodeW
                 Some(entry) => return Some(entry),
                 None => {}
             }
-            match self.node.places.next(self.at) {
+            match self.node.slots.next(self.at) {
                 Some((n, child)) => {
                     self.inner = Some(child_walk(child, self.base, n, shift));
                     self.at = n + 1;
@@ -288,7 +288,7 @@ fn step_inner<'a, V, L: Level<V>, W: Walk<'a, V, L>>(
     }
 }
 
-// A walk over the child in place `n` of a node whose keys are counted from `base`.
+// A walk over the child in slot `n` of a node whose keys are counted from `base`.
 fn child_walk<'a, V, L: Level<V>, W: Walk<'a, V, L>>(
     child: &'a L,
     base: u32,
@@ -297,8 +297,8 @@ fn child_walk<'a, V, L: Level<V>, W: Walk<'a, V, L>>(
 ) -> W
     requires level { shift ≡ L.bits + 4 }
     requires small { shift ≤ 28 }
-    requires place { n < 16 }
-    requires fits { base + 16 * 2 ^ shift ≤ 4294967296 }
+    requires slot { n < 16 }
+    requires fits { base + 16 * 2 ^ shift ≤ keys_end }
     ensures left { W.left result ≡ raised (base + n * 2 ^ shift) (L.entries child.now) }
     ensures sound { W.sound result }
 {
@@ -307,8 +307,8 @@ fn child_walk<'a, V, L: Level<V>, W: Walk<'a, V, L>>(
 
 fn first_key(base: u32, n: u32, shift: u32) -> u32
     requires small { shift ≤ 28 }
-    requires place { n < 16 }
-    requires fits { base + 16 * 2 ^ shift ≤ 4294967296 }
+    requires slot { n < 16 }
+    requires fits { base + 16 * 2 ^ shift ≤ keys_end }
     ensures { result ≡ base + n * 2 ^ shift }
 {
     base + (n << shift)

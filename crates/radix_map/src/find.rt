@@ -2,13 +2,13 @@
 
 ghost use Rattle.std.specs.Prelude.{◌≡◌, ℕ, ◌/◌, ◌%◌, ◌≤◌, List, option_copied, map, Option};
 ghost use Rattle.std.specs.Iterator.{YieldsFirstBy, item_count};
-ghost use Rattle.radix_map.specs.Entries.{value_at, edited_all, node_map, block, part, Rises};
+ghost use Rattle.radix_map.specs.Entries.{value_at, edited_all, node_map, block, part, Rises, keys_end};
 ghost use Rattle.radix_map.specs.Inner.{IsFingerOf, IsLeafOf};
 ghost use Rattle.radix_map.specs.Map.{leaf_entries, root_entries};
 ghost use Rattle.radix_map.specs.Fingers.{root_found, root_sound, IsKeptOf};
 
 use crate::level::{
-    Edit, Leaf, Level, Node, Node1, Node2, Node3, Node4, Node5, Node6, ROOT_SHIFT, Root, place,
+    Edit, Leaf, Level, Node, Node1, Node2, Node3, Node4, Node5, Node6, ROOT_SHIFT, Root, slot,
 };
 use crate::pending::{edit_at, set_value};
 use std::marker::Model;
@@ -36,18 +36,18 @@ pub struct FindAll<'a, V> {
 
 impl<'a, V> Model for FindAll<'a, V> {
     ghost use Rattle.std.specs.Prelude.{List, Option, map};
-    ghost use Rattle.radix_map.specs.Entries.{value_at, edited_all, Rises};
+    ghost use Rattle.radix_map.specs.Entries.{value_at, edited_all, Rises, keys_end};
 
     ghost Value = { List (Option V) };
 
     ghost view = { λ a. map (λ k. value_at k (edited_all a.tree a.pending.now)) a.keys.now };
 
-    ghost invariant = { λ a. Rises 0 4294967296 a.tree × Rises 0 4294967296 a.pending.now };
+    ghost invariant = { λ a. Rises 0 keys_end a.tree × Rises 0 keys_end a.pending.now };
 }
 
 impl<'a, V: Drop> FindAll<'a, V> {
     pub(crate) fn of(root: &'a Root<V>, pending: &'a [Edit<V>], keys: &'a [u32]) -> FindAll<'a, V>
-        requires { Rises 0 4294967296 pending.now }
+        requires { Rises 0 keys_end pending.now }
         ensures { result ≡ map
             (λ k. value_at k (edited_all (root_entries root.now) pending.now)) keys.now }
     {
@@ -84,8 +84,8 @@ fn find<'a, V: Drop>(
     pending: &'a [Edit<V>],
     key: u32,
 ) -> Option<&'a V>
-    requires tree { Rises 0 4294967296 tree.old }
-    requires edits { Rises 0 4294967296 pending.now }
+    requires tree { Rises 0 keys_end tree.old }
+    requires edits { Rises 0 keys_end pending.now }
     ensures value { option_copied result ≡ value_at key (edited_all tree.old pending.now) }
     ensures same { tree.new ≡ tree.old }
 {
@@ -144,7 +144,7 @@ impl<'a, V: Drop> TreeFinger<'a, V> {
     // The leaf of the key's block.
     #[inline(always)]
     fn leaf_of(&mut self, key: u32) -> Option<&'a Leaf<V>>
-        ensures leaf { IsLeafOf 4294967296 self.old (key / 16) (option_copied result) }
+        ensures leaf { IsLeafOf keys_end self.old (key / 16) (option_copied result) }
         ensures same { self.new ≡ self.old }
     {
         let block = key >> 4;
@@ -194,7 +194,7 @@ pub(crate) trait Finger<'a, V, L: Level<V>>: Drop {
         ensures sound { sound self.new };
 }
 
-/// A node, and the path below its child at place `at`.
+/// A node, and the path below its child at slot `at`.
 #[derive(Drop)]
 pub(crate) struct NodeFinger<'a, L, F> {
     node: &'a Node<L>,
@@ -204,7 +204,7 @@ pub(crate) struct NodeFinger<'a, L, F> {
 
 // A path ends at a node whose children are leaves: the last of them is kept beside the path.
 impl<'a, V: Drop> Finger<'a, V, Node1<V>> for &'a Node1<V> {
-    ghost found = { λ f. node_map leaf_entries 0 f.now.places };
+    ghost found = { λ f. node_map leaf_entries 0 f.now.slots };
 
     ghost sound = { λ _. Unit {0} };
 
@@ -215,15 +215,15 @@ impl<'a, V: Drop> Finger<'a, V, Node1<V>> for &'a Node1<V> {
     #[inline(always)]
     fn find(&mut self, key: u32, shift: u32) -> Option<&'a Leaf<V>> {
         let node = *self;
-        node.places.get(place(key, shift))
+        node.slots.get(slot(key, shift))
     }
 }
 
 impl<'a, V: Drop, L: Level<V>, F: Finger<'a, V, L>> Finger<'a, V, Node<L>>
     for NodeFinger<'a, L, F> {
-    ghost found = { λ f. node_map L.entries L.bits f.node.now.places };
+    ghost found = { λ f. node_map L.entries L.bits f.node.now.slots };
 
-    ghost sound = { λ f. IsFingerOf F.sound F.found L.entries f.node.now.places f.at f.inner };
+    ghost sound = { λ f. IsFingerOf F.sound F.found L.entries f.node.now.slots f.at f.inner };
 
     fn begin(node: &'a Node<L>) -> Self {
         NodeFinger {
@@ -236,14 +236,14 @@ impl<'a, V: Drop, L: Level<V>, F: Finger<'a, V, L>> Finger<'a, V, Node<L>>
     #[inline(always)]
     fn find(&mut self, key: u32, shift: u32) -> Option<&'a Leaf<V>> {
         let node = self.node;
-        let at = place(key, shift);
+        let at = slot(key, shift);
         if at == self.at {
             match &mut self.inner {
                 Some(inner) => return inner.find(key, shift - 4),
                 None => {}
             }
         }
-        match node.places.get(at) {
+        match node.slots.get(at) {
             Some(child) => {
                 let mut inner: F = F::begin(child);
                 let found = inner.find(key, shift - 4);

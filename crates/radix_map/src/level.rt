@@ -4,15 +4,15 @@ ghost use Rattle.std.specs.Prelude.{◌≡◌, ℕ, ◌+◌, ◌*◌, ◌/◌, �
 ghost use Rattle.std.specs.Prelude.{IfOk, OnOk, OnErr, IsSome, IfNone, IfSome, Some, None, Option};
 ghost use Rattle.std.specs.Prelude.{option_copied, option_map, true};
 ghost use Rattle.std.specs.Arc.{arc_value};
-ghost use Rattle.radix_map.specs.Places.{item_at};
-ghost use Rattle.radix_map.specs.Entries.{value_at, edited_within, Rises, part, leaf_map, node_map, block};
-ghost use Rattle.radix_map.specs.Entries.{InPlace, IsEdited, IsFirstRun, KeysFit, Counts};
+ghost use Rattle.radix_map.specs.Slots.{item_at};
+ghost use Rattle.radix_map.specs.Entries.{value_at, edited_within, Rises, part, leaf_map, node_map, block, keys_end};
+ghost use Rattle.radix_map.specs.Entries.{InSlot, IsEdited, IsFirstRun, KeysFit, Counts};
 ghost use Rattle.radix_map.specs.Pending.{IsCarried};
 
 use crate::carry::carry_run;
 use crate::leaf_edits::edit_value;
 use crate::pending::Note;
-use crate::places::Places;
+use crate::slots::Slots;
 use grid_core::Memory;
 use std::alloc::Global;
 use std::sync::Arc;
@@ -38,7 +38,7 @@ pub(crate) trait Level<V>: Drop {
     fn empty(alloc: Global) -> Self
         ensures { entries result ≡ [] };
 
-    /// No place is taken.
+    /// No slot is taken.
     fn is_empty(&self) -> bool
         ensures { result ≡ true → entries self.now ≡ [] };
 
@@ -91,13 +91,13 @@ pub(crate) trait Level<V>: Drop {
 /// A node of the lowest level: a value for each of sixteen keys.
 #[derive(Drop)]
 pub(crate) struct Leaf<V> {
-    pub(crate) places: Places<V>,
+    pub(crate) slots: Slots<V>,
 }
 
 /// A node above: a subtree for each of sixteen parts of the keys.
 #[derive(Drop)]
 pub(crate) struct Node<L> {
-    pub(crate) places: Places<L>,
+    pub(crate) slots: Slots<L>,
 }
 
 // The nodes of the levels above the leaves, from below.
@@ -123,26 +123,26 @@ impl<V: Drop> Level<V> for Leaf<V> {
 
     ghost bits = { 0 };
 
-    ghost entries = { λ x. leaf_map x.places };
+    ghost entries = { λ x. leaf_map x.slots };
 
     fn empty(alloc: Global) -> Self {
         Leaf {
-            places: Places::empty(alloc),
+            slots: Slots::empty(alloc),
         }
     }
 
     fn is_empty(&self) -> bool {
-        self.places.is_empty()
+        self.slots.is_empty()
     }
 
     #[inline(always)]
     fn get(&self, key: u32, _shift: u32) -> Option<&V> {
-        self.places.get(key & 15)
+        self.slots.get(key & 15)
     }
 
     fn copy(&self, alloc: Global, more: usize) -> Result<Self, Memory> {
-        let places = self.places.copy(alloc, more)?;
-        Ok(Leaf { places })
+        let slots = self.slots.copy(alloc, more)?;
+        Ok(Leaf { slots })
     }
 
     fn edit(&mut self, _alloc: Global, edits: &[Edit<V>], _shift: u32) -> Result<Tally, Memory> {
@@ -151,7 +151,7 @@ impl<V: Drop> Level<V> for Leaf<V> {
             removed: 0,
         };
         for edit in edits {
-            let one = edit_value(&mut self.places, edit.0, &edit.1)?;
+            let one = edit_value(&mut self.slots, edit.0, &edit.1)?;
             tally.added += one.added;
             tally.removed += one.removed;
         }
@@ -170,14 +170,14 @@ impl<V: Drop> Level<V> for Leaf<V> {
             removed: 0,
         };
         for _done in 0..count {
-            let one = note.carry_first(&mut self.places)?;
+            let one = note.carry_first(&mut self.slots)?;
             tally.added += one.added;
             tally.removed += one.removed;
         }
         Ok(tally)
     }
 
-    ghost rises = { λ x. leaf_rises x.places };
+    ghost rises = { λ x. leaf_rises x.slots };
 }
 
 impl<V: Drop, L: Level<V>> Level<V> for Node<L> {
@@ -185,29 +185,29 @@ impl<V: Drop, L: Level<V>> Level<V> for Node<L> {
 
     ghost bits = { L.bits + 4 };
 
-    ghost entries = { λ x. node_map L.entries L.bits x.places };
+    ghost entries = { λ x. node_map L.entries L.bits x.slots };
 
     fn empty(alloc: Global) -> Self {
         Node {
-            places: Places::empty(alloc),
+            slots: Slots::empty(alloc),
         }
     }
 
     fn is_empty(&self) -> bool {
-        self.places.is_empty()
+        self.slots.is_empty()
     }
 
     #[inline(always)]
     fn get(&self, key: u32, shift: u32) -> Option<&V> {
-        match self.places.get(place(key, shift)) {
+        match self.slots.get(slot(key, shift)) {
             Some(child) => child.get(key, shift - 4),
             None => None,
         }
     }
 
     fn copy(&self, alloc: Global, more: usize) -> Result<Self, Memory> {
-        let places = self.places.copy(alloc, more)?;
-        Ok(Node { places })
+        let slots = self.slots.copy(alloc, more)?;
+        Ok(Node { slots })
     }
 
     fn edit(&mut self, alloc: Global, edits: &[Edit<V>], shift: u32) -> Result<Tally, Memory> {
@@ -219,7 +219,7 @@ impl<V: Drop, L: Level<V>> Level<V> for Node<L> {
         loop {
             match next_run(rest, shift) {
                 Some(run) => {
-                    let one = edit_run(&mut self.places, alloc, run.at, run.edits, shift)?;
+                    let one = edit_run(&mut self.slots, alloc, run.at, run.edits, shift)?;
                     tally.added += one.added;
                     tally.removed += one.removed;
                     rest = run.rest;
@@ -243,7 +243,7 @@ impl<V: Drop, L: Level<V>> Level<V> for Node<L> {
         let mut done = 0;
         while done < count {
             let (at, n) = first_run(&note.rest()[..count - done], shift);
-            let one = carry_run(&mut self.places, alloc, at, note, n, shift)?;
+            let one = carry_run(&mut self.slots, alloc, at, note, n, shift)?;
             tally.added += one.added;
             tally.removed += one.removed;
             done += n;
@@ -251,21 +251,21 @@ impl<V: Drop, L: Level<V>> Level<V> for Node<L> {
         Ok(tally)
     }
 
-    ghost rises = { λ x. node_rises L.entries L.bits L.rises x.places };
+    ghost rises = { λ x. node_rises L.entries L.bits L.rises x.slots };
 }
 
-// The place of a key: its four bits from `shift` on.
+// The slot of a key: its four bits from `shift` on.
 #[inline(always)]
-pub(crate) fn place(key: u32, shift: u32) -> u32
+pub(crate) fn slot(key: u32, shift: u32) -> u32
     requires { shift ≤ 28 }
     ensures value { result ≡ key / 2 ^ shift % 16 }
     ensures small { result < 16 }
-    ensures fits { key < 4294967296 }
+    ensures fits { key < keys_end }
 {
     key >> shift & 15
 }
 
-// The first edits, which all lie in one place, and those behind them.
+// The first edits, which all lie in one slot, and those behind them.
 #[derive(Drop)]
 struct Run<'a, V> {
     at: u32,
@@ -280,7 +280,7 @@ fn next_run<'a, V>(edits: &'a [Edit<V>], shift: u32) -> Option<Run<'a, V>>
         (λ r. IsFirstRun (2 ^ shift) edits.now r.at r.edits.now r.rest.now) }
 {
     let (first, later) = edits.split_first()?;
-    let at = place(first.0, shift);
+    let at = slot(first.0, shift);
     let n = run_length(later, at, shift) + 1;
     let (run, rest) = edits.split_at(n);
     Some(Run {
@@ -290,37 +290,37 @@ fn next_run<'a, V>(edits: &'a [Edit<V>], shift: u32) -> Option<Run<'a, V>>
     })
 }
 
-// The place of the first edit, and how many edits from it on lie there.
+// The slot of the first edit, and how many edits from it on lie there.
 fn first_run<V>(edits: &[Edit<V>], shift: u32) -> (u32, usize)
     requires small { shift ≤ 28 }
     requires some { 0 < length edits.now }
-    ensures place { result.0 < 16 }
-    ensures within { InPlace (2 ^ shift) result.0 (take result.1 edits.now) }
+    ensures slot { result.0 < 16 }
+    ensures within { InSlot (2 ^ shift) result.0 (take result.1 edits.now) }
     ensures some { 0 < result.1 }
     ensures few { result.1 ≤ length edits.now }
 {
-    let at = place(edits[0].0, shift);
+    let at = slot(edits[0].0, shift);
     (at, run_length(&edits[1..], at, shift) + 1)
 }
 
-// How many of the first edits lie in place `at`.
+// How many of the first edits lie in slot `at`.
 fn run_length<V>(edits: &[Edit<V>], at: u32, shift: u32) -> usize
     requires { shift ≤ 28 }
     ensures within { result ≤ length edits.now }
-    ensures all { InPlace (2 ^ shift) at (take result edits.now) }
+    ensures all { InSlot (2 ^ shift) at (take result edits.now) }
     ensures fit { KeysFit (take result edits.now) }
 {
     for (n, edit) in edits.iter().enumerate() {
-        if place(edit.0, shift) != at {
+        if slot(edit.0, shift) != at {
             return n;
         }
     }
     edits.len()
 }
 
-// Edits the child at one place, or makes one where there is none.
+// Edits the child at one slot, or makes one where there is none.
 fn edit_run<V, L: Level<V>>(
-    places: &mut Places<L>,
+    slots: &mut Slots<L>,
     alloc: Global,
     at: u32,
     run: &[Edit<V>],
@@ -329,23 +329,23 @@ fn edit_run<V, L: Level<V>>(
     requires level { shift ≡ L.bits + 4 }
     requires small { shift ≤ 28 }
     requires at { at < 16 }
-    requires run { InPlace (2 ^ shift) at run.now }
+    requires run { InSlot (2 ^ shift) at run.now }
     ensures ok { IfOk result (λ t. IsEdited (block (L.bits + 4))
-        (node_map L.entries L.bits places.old) (node_map L.entries L.bits places.new)
+        (node_map L.entries L.bits slots.old) (node_map L.entries L.bits slots.new)
         run.now t.added t.removed) }
-    ensures alone { length run.now ≤ 1 → OnErr result (node_map L.entries L.bits places.new
-        ≡ node_map L.entries L.bits places.old) }
+    ensures alone { length run.now ≤ 1 → OnErr result (node_map L.entries L.bits slots.new
+        ≡ node_map L.entries L.bits slots.old) }
 {
-    if places.get(at).is_some() {
-        edit_run_here(places, alloc, at, run, shift)
+    if slots.get(at).is_some() {
+        edit_run_here(slots, alloc, at, run, shift)
     } else {
-        edit_run_anew(places, alloc, at, run, shift)
+        edit_run_anew(slots, alloc, at, run, shift)
     }
 }
 
-// Edits the child at one place where it is, and drops it where it has become empty.
+// Edits the child at one slot where it is, and drops it where it has become empty.
 fn edit_run_here<V, L: Level<V>>(
-    places: &mut Places<L>,
+    slots: &mut Slots<L>,
     alloc: Global,
     at: u32,
     run: &[Edit<V>],
@@ -354,22 +354,22 @@ fn edit_run_here<V, L: Level<V>>(
     requires level { shift ≡ L.bits + 4 }
     requires small { shift ≤ 28 }
     requires at { at < 16 }
-    requires taken { IsSome (item_at places.old at) }
-    requires run { InPlace (2 ^ shift) at run.now }
+    requires taken { IsSome (item_at slots.old at) }
+    requires run { InSlot (2 ^ shift) at run.now }
     ensures ok { IfOk result (λ t. IsEdited (block (L.bits + 4))
-        (node_map L.entries L.bits places.old) (node_map L.entries L.bits places.new)
+        (node_map L.entries L.bits slots.old) (node_map L.entries L.bits slots.new)
         run.now t.added t.removed) }
-    ensures alone { length run.now ≤ 1 → OnErr result (node_map L.entries L.bits places.new
-        ≡ node_map L.entries L.bits places.old) }
+    ensures alone { length run.now ≤ 1 → OnErr result (node_map L.entries L.bits slots.new
+        ≡ node_map L.entries L.bits slots.old) }
 {
-    let tally = places.edit_child(alloc, at, run, shift)?;
-    drop_empty(places, at);
+    let tally = slots.edit_child(alloc, at, run, shift)?;
+    drop_empty(slots, at);
     Ok(tally)
 }
 
-// Makes a child of the edits at a free place, unless they leave none.
+// Makes a child of the edits at a free slot, unless they leave none.
 fn edit_run_anew<V, L: Level<V>>(
-    places: &mut Places<L>,
+    slots: &mut Slots<L>,
     alloc: Global,
     at: u32,
     run: &[Edit<V>],
@@ -378,31 +378,31 @@ fn edit_run_anew<V, L: Level<V>>(
     requires level { shift ≡ L.bits + 4 }
     requires small { shift ≤ 28 }
     requires at { at < 16 }
-    requires free { item_at places.old at ≡ None }
-    requires wide { length places.old ≡ 16 }
-    requires run { InPlace (2 ^ shift) at run.now }
+    requires free { item_at slots.old at ≡ None }
+    requires wide { length slots.old ≡ 16 }
+    requires run { InSlot (2 ^ shift) at run.now }
     ensures ok { IfOk result (λ t. IsEdited (block (L.bits + 4))
-        (node_map L.entries L.bits places.old) (node_map L.entries L.bits places.new)
+        (node_map L.entries L.bits slots.old) (node_map L.entries L.bits slots.new)
         run.now t.added t.removed) }
-    ensures err { OnErr result (node_map L.entries L.bits places.new
-        ≡ node_map L.entries L.bits places.old) }
+    ensures err { OnErr result (node_map L.entries L.bits slots.new
+        ≡ node_map L.entries L.bits slots.old) }
 {
     // A copy of the empty node has room for as many items as the run may add.
     let mut child = L::empty(alloc).copy(alloc, run.len())?;
     let tally = child.edit(alloc, run, shift - 4)?;
     let item = shared(alloc, child)?;
-    places.put(at, item)?;
+    slots.put(at, item)?;
     Ok(tally)
 }
 
-// Frees place `at` where its child is empty.
-pub(crate) fn drop_empty<V, L: Level<V>>(places: &mut Places<L>, at: u32)
+// Frees slot `at` where its child is empty.
+pub(crate) fn drop_empty<V, L: Level<V>>(slots: &mut Slots<L>, at: u32)
     requires { at < 16 }
-    ensures { node_map L.entries L.bits places.new
-        ≡ node_map L.entries L.bits places.old }
+    ensures { node_map L.entries L.bits slots.new
+        ≡ node_map L.entries L.bits slots.old }
 {
-    if is_empty_child(places.get(at)) {
-        places.clear(at);
+    if is_empty_child(slots.get(at)) {
+        slots.clear(at);
     }
 }
 

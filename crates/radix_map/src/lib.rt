@@ -1,8 +1,8 @@
-//! A persistent finite map from `u32` keys to shared values, as a tree with sixteen places a node.
+//! A persistent finite map from `u32` keys to shared values, as a tree with sixteen slots a node.
 //!
-//! A key is eight nibbles of four bits. The highest chooses a place of the root, the next one a
-//! place of the node that stands there, and the lowest a value of a leaf. Only taken places are
-//! stored: a node keeps a digit for each place, and its items in order. Nodes are shared, so a
+//! A key is eight nibbles of four bits. The highest chooses a slot of the root, the next one a
+//! slot of the node that stands there, and the lowest a value of a leaf. Only taken slots are
+//! stored: a node keeps a digit for each slot, and its items in order. Nodes are shared, so a
 //! changed map copies the nodes on the way to its key, and has all others in common with the map
 //! that it was made of:
 //!
@@ -19,6 +19,8 @@
 //! A map that is changed in place changes the nodes that nobody else holds where they are. It notes
 //! the edits first, and noted edits count before what the tree has: so it has them all, also where
 //! want of memory stops the walk that carries them into the tree.
+//!
+//! Its calls are tested in `bench_map`, the program above, so that its proofs aren't tried twice.
 
 #![tactic(auto)]
 
@@ -29,9 +31,7 @@ mod leaf_edits;
 mod level;
 mod map;
 mod pending;
-mod places;
-#[cfg(test)]
-mod tests;
+mod slots;
 
 pub use entries::Entries;
 pub use find::FindAll;

@@ -2,11 +2,8 @@
 
 ghost use Rattle.std.specs.Prelude.{◌≡◌, ◌≤◌, [], IfOk, OnOk, OnErr, option_copied, length, map};
 ghost use Rattle.std.specs.Arc.{arc_value};
-ghost use Rattle.radix_map.specs.Entries.{value_at, with_key, without_key, edited_all, Rises};
+ghost use Rattle.radix_map.specs.Entries.{value_at, with_key, without_key, edited_all, Rises, keys_end};
 ghost use Rattle.radix_map.specs.Map.{root_entries};
-
-#[cfg(test)]
-pub(crate) mod stopped;
 
 use crate::entries::Entries;
 use crate::find::FindAll;
@@ -57,7 +54,8 @@ impl<V: Drop> Map<V> {
 
     /// The value at the key.
     pub fn get(&self, key: u32) -> Option<&V>
-        ensures { option_copied result ≡ value_at key self.now }
+        ensures value { option_copied result ≡ value_at key self.now }
+        ensures kept { Rises 0 keys_end self.now }
     {
         match edit_at(self.pending.rest(), key) {
             Some(value) => set_value(value),
@@ -67,14 +65,16 @@ impl<V: Drop> Map<V> {
 
     /// How many entries it has.
     pub fn len(&self) -> usize
-        ensures { result ≡ length self.now }
+        ensures value { result ≡ length self.now }
+        ensures kept { Rises 0 keys_end self.now }
     {
         self.len
     }
 
     /// The entries by rising key.
     pub fn entries(&self) -> Entries<'_, V>
-        ensures { result ≡ self.now }
+        ensures value { result ≡ self.now }
+        ensures kept { Rises 0 keys_end self.now }
     {
         Entries::of(&self.root, self.pending.rest())
     }
@@ -89,14 +89,16 @@ impl<V: Drop> Map<V> {
 
     /// The map with the key set to the value.
     pub fn with(&self, key: u32, value: Arc<V>) -> Result<Map<V>, Memory>
-        ensures { IfOk result (λ m. m ≡ with_key self.now key (arc_value value)) }
+        ensures value { IfOk result (λ m. m ≡ with_key self.now key (arc_value value)) }
+        ensures kept { IfOk result (λ m. Rises 0 keys_end m) }
     {
         self.with_all(&[(key, Some(value))])
     }
 
     /// The map without the key.
     pub fn without(&self, key: u32) -> Result<Map<V>, Memory>
-        ensures { IfOk result (λ m. m ≡ without_key self.now key) }
+        ensures value { IfOk result (λ m. m ≡ without_key self.now key) }
+        ensures kept { IfOk result (λ m. Rises 0 keys_end m) }
     {
         self.with_all(&[(key, None)])
     }
@@ -104,7 +106,8 @@ impl<V: Drop> Map<V> {
     /// The map after each edit in turn: `Some` sets its key, and `None` removes it. It is cheapest
     /// where the keys rise, since then each node is copied once.
     pub fn with_all(&self, edits: &[(u32, Option<Arc<V>>)]) -> Result<Map<V>, Memory>
-        ensures { IfOk result (λ m. m ≡ edited_all self.now edits.now) }
+        ensures value { IfOk result (λ m. m ≡ edited_all self.now edits.now) }
+        ensures kept { IfOk result (λ m. Rises 0 keys_end m) }
     {
         let mut root = self.root.copy(self.alloc, edits.len())?;
         // What is noted comes first, and is part of `len` already.
@@ -127,7 +130,7 @@ impl<V: Drop> Map<V> {
         ensures ok { OnOk result (self.new ≡ edited_all self.old edits.now) }
         ensures err { OnErr result (self.new ≡ self.old) }
     {
-        self.settle();
+        self.carry_noted();
         match edits {
             [_] => self.edit_alone(edits),
             _ => self.edit_noted(edits),
@@ -135,7 +138,7 @@ impl<V: Drop> Map<V> {
     }
 
     // Carries the edits that are noted into the tree, as far as memory reaches.
-    fn settle(&mut self)
+    fn carry_noted(&mut self)
         ensures { self.new ≡ self.old }
     {
         if self.pending.is_empty() {
@@ -193,7 +196,7 @@ impl<V: Drop> Map<V> {
 
 // How many entries a tree has after edits.
 fn count<V: Drop>(root: &Root<V>, edits: &[Edit<V>]) -> usize
-    requires { Rises 0 4294967296 edits.now }
+    requires { Rises 0 keys_end edits.now }
     ensures { result ≡ length (edited_all (root_entries root.now) edits.now) }
 {
     Entries::of(root, edits).count()

@@ -3,12 +3,12 @@
 ghost use Rattle.std.specs.Prelude.{◌≡◌, ◌+◌, ◌<◌, ◌≤◌, ◌++◌, [], true, IfOk, OnOk, OnErr, map, take};
 ghost use Rattle.std.specs.Prelude.{drop, length, option_copied, option_map};
 ghost use Rattle.std.specs.Arc.{arc_value};
-ghost use Rattle.radix_map.specs.Entries.{value_at, edited_within, leaf_map, Counts, Rises};
+ghost use Rattle.radix_map.specs.Entries.{value_at, edited_within, leaf_map, Counts, Rises, keys_end};
 ghost use Rattle.radix_map.specs.Pending.{told};
 
 use crate::leaf_edits::{move_value, share_value};
 use crate::level::{Edit, Tally};
-use crate::places::Places;
+use crate::slots::Slots;
 use grid_core::Memory;
 use std::alloc::Global;
 use std::marker::Model;
@@ -16,7 +16,7 @@ use std::sync::Arc;
 
 /// Whether the keys rise strictly.
 pub(crate) fn rise<V>(edits: &[Edit<V>]) -> bool
-    ensures { result ≡ true → Rises 0 4294967296 edits.now }
+    ensures { result ≡ true → Rises 0 keys_end edits.now }
 {
     let mut low: u64 = 0;
     for edit in edits {
@@ -31,7 +31,7 @@ pub(crate) fn rise<V>(edits: &[Edit<V>]) -> bool
 // The least number above a key.
 fn behind(key: u32) -> u64
     ensures value { result ≡ key + 1 }
-    ensures within { result ≤ 4294967296 }
+    ensures within { result ≤ keys_end }
 {
     u64::from(key) + 1
 }
@@ -39,7 +39,7 @@ fn behind(key: u32) -> u64
 /// The edit of the key, if there is one.
 #[inline(always)]
 pub(crate) fn edit_at<V>(edits: &[Edit<V>], key: u32) -> Option<&Option<Arc<V>>>
-    requires { Rises 0 4294967296 edits.now }
+    requires { Rises 0 keys_end edits.now }
     ensures { option_copied result ≡ value_at key edits.now }
 {
     if edits.is_empty() {
@@ -50,7 +50,7 @@ pub(crate) fn edit_at<V>(edits: &[Edit<V>], key: u32) -> Option<&Option<Arc<V>>>
 
 // The same, by halves.
 fn search<V>(edits: &[Edit<V>], key: u32) -> Option<&Option<Arc<V>>>
-    requires { Rises 0 4294967296 edits.now }
+    requires { Rises 0 keys_end edits.now }
     ensures { option_copied result ≡ value_at key edits.now }
 {
     let at = edits.partition_point(|edit| edit.0 < key);
@@ -152,18 +152,18 @@ impl<V: Drop> Note<V> {
 
     /// Moves what the first edit sets into a leaf, or removes its key. It stays noted after want of
     /// memory.
-    pub(crate) fn carry_first(&mut self, places: &mut Places<V>) -> Result<Tally, Memory>
+    pub(crate) fn carry_first(&mut self, slots: &mut Slots<V>) -> Result<Tally, Memory>
         requires some { 0 < length self.old }
-        ensures ok { OnOk result (leaf_map places.new
-            ≡ edited_within 16 (leaf_map places.old) (take 1 self.old)) }
+        ensures ok { OnOk result (leaf_map slots.new
+            ≡ edited_within 16 (leaf_map slots.old) (take 1 self.old)) }
         ensures rest { OnOk result (self.new ≡ drop 1 self.old) }
-        ensures err { OnErr result (places.new ≡ places.old) }
+        ensures err { OnErr result (slots.new ≡ slots.old) }
         ensures kept { OnErr result (self.new ≡ self.old) }
-        ensures counted { IfOk result (λ t. Counts (length (leaf_map places.old))
-            (length (leaf_map places.new)) t.added t.removed) }
+        ensures counted { IfOk result (λ t. Counts (length (leaf_map slots.old))
+            (length (leaf_map slots.new)) t.added t.removed) }
         ensures few { IfOk result (λ t. (t.added ≤ 1) × (t.removed ≤ 1)) }
     {
-        let tally = move_value(places, &mut self.edits[self.done])?;
+        let tally = move_value(slots, &mut self.edits[self.done])?;
         self.done += 1;
         Ok(tally)
     }

@@ -1,13 +1,13 @@
-//! The sixteen places of a node: a digit for each, and the items of the taken ones in order.
+//! The sixteen slots of a node: a digit for each, and the items of the taken ones in order.
 
 ghost use Rattle.std.specs.Prelude.{◌≡◌, ℕ, ◌+◌, ◌/◌, ◌^◌, ◌<◌, ◌≤◌, ◌++◌, map, length, replicate};
 ghost use Rattle.std.specs.Prelude.{slice_set, IfNone, IfSome, IsSome, IfOk, IfErr, OnOk, OnErr, Some, None};
 ghost use Rattle.std.specs.Prelude.{option_copied, option_map, true, take, drop};
 ghost use Rattle.std.specs.Arc.{arc_value};
 ghost use Rattle.std.specs.Int.{bit_at};
-ghost use Rattle.radix_map.specs.Entries.{edited_within, node_map, block, InPlace, IsEdited, Counts};
+ghost use Rattle.radix_map.specs.Entries.{edited_within, node_map, block, InSlot, IsEdited, Counts};
 ghost use Rattle.radix_map.specs.Pending.{IsCarried};
-ghost use Rattle.radix_map.specs.Places.{item_at, taken, digit_of, Replaces, IsNext, IsNextDigit};
+ghost use Rattle.radix_map.specs.Slots.{item_at, taken, digit_of, Replaces, IsNext, IsNextDigit};
 
 use crate::carry::carry_shared;
 use crate::level::{Edit, Level, Tally, edit_shared};
@@ -17,37 +17,37 @@ use std::alloc::{AllocFailed, Global};
 use std::marker::Model;
 use std::sync::Arc;
 
-/// Sixteen places, each free or taken by a shared item.
+/// Sixteen slots, each free or taken by a shared item.
 #[derive(Drop)]
-pub(crate) struct Places<T> {
+pub(crate) struct Slots<T> {
     digits: u16,
     items: Vec<Arc<T>>,
 }
 
-impl<T> Model for Places<T> {
+impl<T> Model for Slots<T> {
     ghost use Rattle.std.specs.Prelude.{◌≡◌, List, Option, map, length};
     ghost use Rattle.std.specs.Arc.{arc_value};
-    ghost use Rattle.radix_map.specs.Places.{places_of, taken};
+    ghost use Rattle.radix_map.specs.Slots.{slots_of, taken};
 
     ghost Value = { List (Option T) };
 
-    ghost view = { λ p. places_of 16 p.digits (map arc_value p.items.items) };
+    ghost view = { λ p. slots_of 16 p.digits (map arc_value p.items.items) };
 
     ghost invariant = { λ p. length p.items.items ≡ taken 16 p.digits };
 }
 
-impl<T> Places<T> {
-    /// No place is taken.
-    pub(crate) fn empty(alloc: Global) -> Places<T>
+impl<T> Slots<T> {
+    /// No slot is taken.
+    pub(crate) fn empty(alloc: Global) -> Slots<T>
         ensures { result ≡ replicate 16 None }
     {
-        Places {
+        Slots {
             digits: 0,
             items: Vec::new(alloc),
         }
     }
 
-    /// The item at place `at`.
+    /// The item at slot `at`.
     #[inline(always)]
     pub(crate) fn get(&self, at: u32) -> Option<&T>
         requires { at < 16 }
@@ -61,7 +61,7 @@ impl<T> Places<T> {
         Some(item)
     }
 
-    /// The first item at or behind place `at`, and its place.
+    /// The first item at or behind slot `at`, and its slot.
     #[inline(always)]
     pub(crate) fn next(&self, at: u32) -> Option<(u32, &T)>
         requires { at ≤ 16 }
@@ -80,28 +80,28 @@ impl<T> Places<T> {
     }
 }
 
-impl<T: Drop> Places<T> {
+impl<T: Drop> Slots<T> {
     /// A copy that shares the items, with room for up to `more` of them.
-    pub(crate) fn copy(&self, alloc: Global, more: usize) -> Result<Places<T>, Memory>
+    pub(crate) fn copy(&self, alloc: Global, more: usize) -> Result<Slots<T>, Memory>
         ensures { IfOk result (λ p. p ≡ self.now) }
     {
         let room = self.items.len().saturating_add(more).min(16);
         let mut items = Vec::with_capacity(alloc, room)?;
         share(&mut items, &self.items)?;
-        Ok(Places {
+        Ok(Slots {
             digits: self.digits,
             items,
         })
     }
 
-    /// No place is taken.
+    /// No slot is taken.
     pub(crate) fn is_empty(&self) -> bool
         ensures { result ≡ true → self.now ≡ replicate 16 None }
     {
         self.digits == 0
     }
 
-    /// Place `at` has `item` then, and is free where there is none.
+    /// Slot `at` has `item` then, and is free where there is none.
     pub(crate) fn put(&mut self, at: u32, item: Option<Arc<T>>) -> Result<(), Memory>
         requires { at < 16 }
         ensures ok { OnOk result (self.new ≡ slice_set self.old at (option_map arc_value item)) }
@@ -116,7 +116,7 @@ impl<T: Drop> Places<T> {
         }
     }
 
-    /// Edits the child at place `at`, which all edits go to, where it is, or a copy of it where
+    /// Edits the child at slot `at`, which all edits go to, where it is, or a copy of it where
     /// others hold it.
     pub(crate) fn edit_child<V>(
         &mut self,
@@ -131,7 +131,7 @@ impl<T: Drop> Places<T> {
         requires small { shift ≤ 28 }
         requires at { at < 16 }
         requires taken { IsSome (item_at self.old at) }
-        requires run { InPlace (2 ^ shift) at run.now }
+        requires run { InSlot (2 ^ shift) at run.now }
         ensures ok { IfOk result (λ t. IsEdited (block (T.bits + 4))
             (node_map T.entries T.bits self.old) (node_map T.entries T.bits self.new)
             run.now t.added t.removed) }
@@ -142,7 +142,7 @@ impl<T: Drop> Places<T> {
         edit_shared(&mut self.items[low], alloc, run, shift - 4)
     }
 
-    /// Carries the next `count` noted edits, which all go to place `at`, into the child there where
+    /// Carries the next `count` noted edits, which all go to slot `at`, into the child there where
     /// it is, or into a copy of it where others hold it.
     pub(crate) fn carry_child<V: Drop>(
         &mut self,
@@ -159,7 +159,7 @@ impl<T: Drop> Places<T> {
         requires at { at < 16 }
         requires taken { IsSome (item_at self.old at) }
         requires count { count ≤ length note.old }
-        requires run { InPlace (2 ^ shift) at (take count note.old) }
+        requires run { InSlot (2 ^ shift) at (take count note.old) }
         ensures ok { OnOk result (node_map T.entries T.bits self.new ≡ edited_within
             (block (T.bits + 4)) (node_map T.entries T.bits self.old) (take count note.old)) }
         ensures rest { OnOk result (note.new ≡ drop count note.old) }
@@ -174,7 +174,7 @@ impl<T: Drop> Places<T> {
         carry_shared(&mut self.items[low], alloc, note, count, shift - 4)
     }
 
-    /// Place `at` has `item` then. Want of memory gives it back.
+    /// Slot `at` has `item` then. Want of memory gives it back.
     pub(crate) fn fill(&mut self, at: u32, item: Arc<T>) -> Result<(), AllocFailed<Arc<T>>>
         requires { at < 16 }
         ensures ok { OnOk result (self.new ≡ slice_set self.old at (Some (arc_value item))) }
@@ -191,7 +191,7 @@ impl<T: Drop> Places<T> {
         Ok(())
     }
 
-    /// Place `at` is free then.
+    /// Slot `at` is free then.
     pub(crate) fn clear(&mut self, at: u32)
         requires { at < 16 }
         ensures { self.new ≡ slice_set self.old at None }
@@ -205,7 +205,7 @@ impl<T: Drop> Places<T> {
     }
 }
 
-// 1 where place `at` is taken, and 0 where it is free.
+// 1 where slot `at` is taken, and 0 where it is free.
 #[inline(always)]
 fn digit(digits: u16, at: u32) -> u16
     requires { at < 16 }
@@ -214,7 +214,7 @@ fn digit(digits: u16, at: u32) -> u16
     digits >> at & 1
 }
 
-// The first taken place at or behind `at`.
+// The first taken slot at or behind `at`.
 #[inline(always)]
 fn next_taken(digits: u16, at: u32) -> Option<u32>
     requires { at ≤ 16 }
@@ -229,7 +229,7 @@ fn next_taken(digits: u16, at: u32) -> Option<u32>
     }
 }
 
-// How many places below `at` are taken.
+// How many slots below `at` are taken.
 #[inline(always)]
 fn rank(digits: u16, at: u32) -> usize
     requires { at < 16 }
@@ -240,7 +240,7 @@ fn rank(digits: u16, at: u32) -> usize
     (digits & ((1 << at) - 1)).count_ones() as usize
 }
 
-// The digits with that of place `at` set where it is taken, and cleared where it is free.
+// The digits with that of slot `at` set where it is taken, and cleared where it is free.
 #[inline(always)]
 fn marked(digits: u16, at: u32, is_taken: bool) -> u16
     requires { at < 16 }

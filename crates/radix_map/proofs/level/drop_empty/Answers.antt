@@ -7,4 +7,4 @@ pub returns-then-is_empty_child : goal.returns-then-is_empty_child
 returns-then-is_empty_child g c =
     let f = g.L.Level.entries in
     let step = 2 ^ (g.L.Level.bits + 4) in
-    ap (entries_of f step) c.clear.ensures ∙ node_same f step c.args.at c.args.places.now None c.requires (sym (ap (part f) (sym c.get.ensures.value) ∙ c.is_empty_child.ensures c.if-is_empty_child.true))
+    ap (entries_of f step) c.clear.ensures ∙ node_same f step c.args.at c.args.slots.now None c.requires (sym (ap (part f) (sym c.get.ensures.value) ∙ c.is_empty_child.ensures c.if-is_empty_child.true))

@@ -1,5 +1,5 @@
 use Rattle.std.proofs.Common.{◌^◌, ◌/◌, ◌%◌, ap, sym, ◌∙◌, subst, arith}
-use Rattle.radix_map.specs.Entries.{InPlace}
+use Rattle.radix_map.specs.Entries.{InSlot}
 use Rattle.radix_map.proofs.Carrying.{run_front}
 use Rattle.radix_map.proofs.level.first_run.Goals as goal
 
@@ -8,11 +8,11 @@ returns g c =
     let edits = c.args.edits.now in
     let k = c.run_length.result in
     let first = c.index-edits-0 in
-    let at = ap (λ (e : _). e.0 / 2 ^ c.args.shift % 16) first.is ∙ sym c.place-at.ensures.value in
+    let at = ap (λ (e : _). e.0 / 2 ^ c.args.shift % 16) first.is ∙ sym c.slot-at.ensures.value in
     let front = run_front edits k first.result c.requires.some first.is in
     record {
-      place = c.place-at.ensures.small;
-      within = subst (InPlace (2 ^ c.args.shift) c.place-at.result) (sym front) (at, c.run_length.ensures.all);
+      slot = c.slot-at.ensures.small;
+      within = subst (InSlot (2 ^ c.args.shift) c.slot-at.result) (sym front) (at, c.run_length.ensures.all);
       some = omega arith;
       few = omega arith;
     }

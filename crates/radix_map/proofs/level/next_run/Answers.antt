@@ -1,6 +1,6 @@
 use Rattle.std.proofs.Common.{◌≡◌, suc, ◌+◌, ◌^◌, ◌∷◌, ◌++◌, take, drop, ap, sym, ◌∙◌, subst, arith, add-one}
 use Rattle.std.proofs.lemmas.List.{take-append-drop}
-use Rattle.radix_map.specs.Entries.{InPlace, KeysFit}
+use Rattle.radix_map.specs.Entries.{InSlot, KeysFit}
 use Rattle.radix_map.proofs.level.next_run.Goals as goal
 
 pub returns : goal.returns
@@ -15,9 +15,9 @@ returns g c =
     record {
       none = tt;
       some = record {
-        place = c.place-at.ensures.small;
-        within = subst (InPlace (2 ^ c.args.shift) c.place-at.result) (sym front) (sym c.place-at.ensures.value, c.run_length-n.ensures.all);
-        fit = subst KeysFit (sym front) (c.place-at.ensures.fits, c.run_length-n.ensures.fit);
+        slot = c.slot-at.ensures.small;
+        within = subst (InSlot (2 ^ c.args.shift) c.slot-at.result) (sym front) (sym c.slot-at.ensures.value, c.run_length-n.ensures.all);
+        fit = subst KeysFit (sym front) (c.slot-at.ensures.fits, c.run_length-n.ensures.fit);
         some = omega (arith, c.split_at.ensures.front_len);
         all = sym (take-append-drop (n + 1) edits) ∙ ap (λ t. t ++ drop (n + 1) edits) (sym c.split_at.ensures.front) ∙ ap (λ t. c.split_at.result.0.now ++ t) (sym c.split_at.ensures.back);
       };

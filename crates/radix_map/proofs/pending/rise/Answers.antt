@@ -1,5 +1,5 @@
 use Rattle.std.proofs.Common.{◌≡◌, ◌+◌, ◌≤◌, suc, take, take_all, get_or, ap, sym, ◌∙◌, subst, arith, add-one}
-use Rattle.radix_map.specs.Entries.{Rises}
+use Rattle.radix_map.specs.Entries.{Rises, keys_end}
 use Rattle.radix_map.specs.Rising.{rises_wider}
 use Rattle.radix_map.proofs.Noted.{rises_more}
 use Rattle.radix_map.proofs.pending.rise.Goals as goal
@@ -22,4 +22,4 @@ returns g c = λ t.
     let inv = c.loop-edit.invariant in
     let low = c.loop-edit.low in
     let all : take i edits ≡ edits = take_all i edits c.loop-edit-test.false in
-    rises_wider 0 low 4294967296 edits (subst (Rises 0 low) all inv.0) inv.1
+    rises_wider 0 low keys_end edits (subst (Rises 0 low) all inv.0) inv.1

@@ -1,8 +1,8 @@
 use Rattle.std.proofs.Common.{◌%◌, ◌*◌, ◌-◌, ◌^◌, sym, subst, bit_or, bit_and}
 use Rattle.std.specs.Int.{bit_at}
-use Rattle.radix_map.specs.Places.{Replaces, digit_of}
+use Rattle.radix_map.specs.Slots.{Replaces, digit_of}
 use Rattle.radix_map.proofs.Digits.{Replaces-set, Replaces-cleared}
-use Rattle.radix_map.proofs.places.marked.Goals as goal
+use Rattle.radix_map.proofs.slots.marked.Goals as goal
 
 pub returns-then-is_taken : goal.returns-then-is_taken
 returns-then-is_taken c =

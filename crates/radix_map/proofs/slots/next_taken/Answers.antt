@@ -1,9 +1,9 @@
 use Rattle.std.proofs.Common.{◌+◌, ◌/◌, ◌^◌, ap, sym, ◌∙◌, subst}
 use Rattle.std.specs.Int.{trailing_zeros}
 use mir.Syntax.{w32}
-use Rattle.radix_map.specs.Places.{IsNextDigit}
+use Rattle.radix_map.specs.Slots.{IsNextDigit}
 use Rattle.radix_map.proofs.Digits.{next_digit}
-use Rattle.radix_map.proofs.places.next_taken.Goals as goal
+use Rattle.radix_map.proofs.slots.next_taken.Goals as goal
 
 pub returns-else-higher-eq0-clause-some : goal.returns-else-higher-eq0-clause-some
 returns-else-higher-eq0-clause-some c =

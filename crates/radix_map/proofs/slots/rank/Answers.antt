@@ -1,9 +1,9 @@
 use Rattle.std.proofs.Common.{◌+◌, ◌-◌, ◌≤◌, ap, sym, ◌∙◌, subst, bit_and, count_ones}
 use Rattle.std.proofs.lemmas.Nat.{and_mask, one_shl}
 use Rattle.std.specs.Int.{bit_at}
-use Rattle.radix_map.specs.Places.{taken}
+use Rattle.radix_map.specs.Slots.{taken}
 use Rattle.radix_map.proofs.Digits.{taken_ones, room, taken-le}
-use Rattle.radix_map.proofs.places.rank.Goals as goal
+use Rattle.radix_map.proofs.slots.rank.Goals as goal
 
 pub returns : goal.returns
 returns c =

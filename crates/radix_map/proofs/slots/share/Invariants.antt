@@ -1,6 +1,6 @@
 use Rattle.std.proofs.Common.{◌≡◌, ◌++◌, map, take}
 use Rattle.std.specs.Arc.{arc_value}
-use Rattle.radix_map.proofs.places.share.Given as goal
+use Rattle.radix_map.proofs.slots.share.Given as goal
 
 abbrev pub invariant-loop-item : goal.invariant-loop-item
 invariant-loop-item g l = map arc_value l.to.items ≡ map arc_value l.fn.to.items ++ map arc_value (take l.item-index l.from)

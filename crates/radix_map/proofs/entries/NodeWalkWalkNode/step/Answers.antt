@@ -8,7 +8,7 @@ loop-entry-preserved g c =
     let f = g.L.Level.entries in
     let step = 2 ^ (g.L.Level.bits + 4) in
     let w = c.loop-entry.self in
-    let xs = w.node.now.places in
+    let xs = w.node.now.slots in
     let n = c.in-Some-next.n in
     let child = c.in-Some-next.child.now in
     let inv = c.loop-entry.invariant in
@@ -22,7 +22,7 @@ returns-in-None-next-clause-first g c =
     let f = g.L.Level.entries in
     let step = 2 ^ (g.L.Level.bits + 4) in
     let w = c.loop-entry.self in
-    let xs = w.node.now.places in
+    let xs = w.node.now.slots in
     let later = entries_behind f step w.base w.at xs in
     let none = behind_none f step w.base w.at xs c.in-None-next.ensures.none in
     (sym c.loop-entry.invariant.0 ∙ ap (λ t. t ++ later) c.in-None.ensures.first.0 ∙ none, ap (λ t. t ++ later) c.in-None.ensures.first.1 ∙ none)

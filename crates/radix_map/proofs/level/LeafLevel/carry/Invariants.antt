@@ -4,4 +4,4 @@ use Rattle.radix_map.proofs.level.LeafLevel.carry.Given as goal
 
 abbrev pub invariant-loop-done : goal.invariant-loop-done
 invariant-loop-done g l =
-    Carrying 16 (entries_of single 1 l.initial.self.places) (entries_of single 1 l.self.places) l.initial.note l.note l._done l.tally.added l.tally.removed
+    Carrying 16 (entries_of single 1 l.initial.self.slots) (entries_of single 1 l.self.slots) l.initial.note l.note l._done l.tally.added l.tally.removed

@@ -4,13 +4,13 @@ use Rattle.radix_map.proofs.Carried.{Carried, carried_none, carried_more, carrie
 use Rattle.radix_map.proofs.level.LeafLevel.edit.Goals as goal
 
 pub loop-edit-init : goal.loop-edit-init
-loop-edit-init g c = carried_none 16 (entries_of single 1 c.args.self.now.places) c.args.edits.now
+loop-edit-init g c = carried_none 16 (entries_of single 1 c.args.self.now.slots) c.args.edits.now
 
 pub loop-edit-preserved : goal.loop-edit-preserved
 loop-edit-preserved g c =
-    let es = entries_of single 1 c.args.self.now.places in
-    let now = entries_of single 1 c.loop-edit.self.places in
-    let next = entries_of single 1 c.edit_value.new.places in
+    let es = entries_of single 1 c.args.self.now.slots in
+    let now = entries_of single 1 c.loop-edit.self.slots in
+    let next = entries_of single 1 c.edit_value.new.slots in
     let edits = c.args.edits.now in
     let i = c.loop-edit.edit-index in
     let e = c.edit-item.result in
@@ -26,4 +26,4 @@ returns-in_err-one-clause-alone g c = λ n.
     let i = c.loop-edit.edit-index in
     let e = c.edit-item.result in
     let t = c.loop-edit.tally in
-    at_err c.from_residual.result (carried_alone 16 (entries_of single 1 c.args.self.now.places) (entries_of single 1 c.loop-edit.self.places) (entries_of single 1 c.edit_value.new.places) edits (drop i edits) (e ∷ []) (drop (suc i) edits) t.added t.removed c.loop-edit.invariant (next_edit edits i e c.loop-edit-test.true c.edit-item.is) (omega arith) (λ m. ap (entries_of single 1) c.in_err-one.ensures.err) n)
+    at_err c.from_residual.result (carried_alone 16 (entries_of single 1 c.args.self.now.slots) (entries_of single 1 c.loop-edit.self.slots) (entries_of single 1 c.edit_value.new.slots) edits (drop i edits) (e ∷ []) (drop (suc i) edits) t.added t.removed c.loop-edit.invariant (next_edit edits i e c.loop-edit-test.true c.edit-item.is) (omega arith) (λ m. ap (entries_of single 1) c.in_err-one.ensures.err) n)

@@ -7,7 +7,7 @@ use Rattle.radix_map.proofs.pending.Note.carry_first.Goals as goal
 pub returns-clause-ok : goal.returns-clause-ok
 returns-clause-ok g c =
     let n = c.self.inside in
-    let es = entries_of single 1 c.args.places.now in
+    let es = entries_of single 1 c.args.slots.now in
     let noted = c.args.self.now in
     let edit = c.index_mut.result.now in
     let in_row = in_note n.edits.items noted n.done c.self.view_is c.requires.some in

@@ -1,10 +1,10 @@
 use Rattle.std.proofs.Common.{◌≡◌, ◌+◌, ◌^◌, sym, ◌∙◌, subst, arith, length, map, take, IsSome}
 use Rattle.std.proofs.lemmas.List.{length-map}
 use Rattle.std.specs.Arc.{arc_value}
-use Rattle.radix_map.specs.Places.{item_at, taken}
+use Rattle.radix_map.specs.Slots.{item_at, taken}
 use Rattle.radix_map.proofs.Edits.{item_changed, change_ok, change_counted, taken_digit}
 use Rattle.radix_map.proofs.Carrying.{change_part}
-use Rattle.radix_map.proofs.places.Places.carry_child.Goals as goal
+use Rattle.radix_map.proofs.slots.Slots.carry_child.Goals as goal
 
 pub index_mut-requires : goal.index_mut-requires
 index_mut-requires g c =

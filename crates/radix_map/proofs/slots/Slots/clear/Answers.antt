@@ -4,7 +4,7 @@ use Rattle.std.specs.Arc.{arc_value}
 use Rattle.std.specs.Int.{bit_at}
 use Rattle.std.proofs.lemmas.Nat.Bits.{bit_at-lt}
 use Rattle.radix_map.proofs.Copied.{freed, stays_free}
-use Rattle.radix_map.proofs.places.Places.clear.Goals as goal
+use Rattle.radix_map.proofs.slots.Slots.clear.Goals as goal
 
 pub returns-then-digit-eq0 : goal.returns-then-digit-eq0
 returns-then-digit-eq0 g c =
@@ -27,4 +27,4 @@ returns g c =
     let low = bit_at-lt p.digits c.args.at in
     let one : bit_at p.digits c.args.at ≡ 1 = omega (arith, c.digit.ensures, c.if-digit-eq0.false) in
     let f = freed arc_value c.args.at p.digits c.marked-self-inside.result p.items.items c.remove.new.self.items c.requires c.self.invariant one c.marked-self-inside.ensures (c.remove.ensures.items ∙ ap (remove p.items.items) c.rank-low.ensures.value) in
-    f.placed ∙ ap (λ t. set t c.args.at None) c.self.view_is
+    f.slotd ∙ ap (λ t. set t c.args.at None) c.self.view_is

@@ -2,21 +2,21 @@ use Rattle.std.proofs.Common.{◌≡◌, ap, sym, ◌∙◌, arith, length, map,
 use Rattle.std.proofs.Math.ListN.{get_or-map}
 use Rattle.std.proofs.lemmas.List.{length-map}
 use Rattle.std.specs.Arc.{arc_value}
-use Rattle.radix_map.specs.Places.{item_at, taken}
-use Rattle.radix_map.proofs.Digits.{no_digit, free_place, taken_place, places-length}
-use Rattle.radix_map.proofs.places.Places.next.Goals as goal
+use Rattle.radix_map.specs.Slots.{item_at, taken}
+use Rattle.radix_map.proofs.Digits.{no_digit, free_slot, taken_slot, slots-length}
+use Rattle.radix_map.proofs.slots.Slots.next.Goals as goal
 
 pub returns-in-None-clause-none : goal.returns-in-None-clause-none
 returns-in-None-clause-none g c = λ k l n.
     let p = c.self.inside in
     let xs = map arc_value p.items.items in
-    ap (λ t. item_at t k) (sym c.self.view_is) ∙ free_place 16 k p.digits xs n (length-map p.items.items arc_value ∙ c.self.invariant) (no_digit p.digits c.args.at k c.in-None.ensures.none l)
+    ap (λ t. item_at t k) (sym c.self.view_is) ∙ free_slot 16 k p.digits xs n (length-map p.items.items arc_value ∙ c.self.invariant) (no_digit p.digits c.args.at k c.in-None.ensures.none l)
 
 pub returns-in-None-clause-wide : goal.returns-in-None-clause-wide
-returns-in-None-clause-wide g c = ap length (sym c.self.view_is) ∙ places-length 16 c.self.inside.digits _
+returns-in-None-clause-wide g c = ap length (sym c.self.view_is) ∙ slots-length 16 c.self.inside.digits _
 
 pub returns-in-Some-clause-wide : goal.returns-in-Some-clause-wide
-returns-in-Some-clause-wide g c = ap length (sym c.self.view_is) ∙ places-length 16 c.self.inside.digits _
+returns-in-Some-clause-wide g c = ap length (sym c.self.view_is) ∙ slots-length 16 c.self.inside.digits _
 
 pub index-requires : goal.index-requires
 index-requires g c =
@@ -40,6 +40,6 @@ returns-in-Some-clause-some g c =
     record {
       behind = h.behind;
       below = h.below;
-      free = λ k l m. ap (λ t. item_at t k) (sym c.self.view_is) ∙ free_place 16 k p.digits xs (let b = h.below in omega arith) size (h.free k l m);
-      here = ap (λ t. item_at t n) (sym c.self.view_is) ∙ taken_place 16 n p.digits (arc_value a) xs h.below size h.here read ∙ ap Some (sym c.deref-item.ensures);
+      free = λ k l m. ap (λ t. item_at t k) (sym c.self.view_is) ∙ free_slot 16 k p.digits xs (let b = h.below in omega arith) size (h.free k l m);
+      here = ap (λ t. item_at t n) (sym c.self.view_is) ∙ taken_slot 16 n p.digits (arc_value a) xs h.below size h.here read ∙ ap Some (sym c.deref-item.ensures);
     }
