@@ -21,9 +21,8 @@ use Rattle.grid_core.specs.Segment.{Segment}
 use Rattle.grid_core.specs.LiveList.{names, with_segment}
 use Rattle.grid_core.specs.Meets.{meets_pixel_of}
 use Rattle.grid_core.specs.RisingSet.{rising}
-use Rattle.grid_core.specs.Rounding.{end_points, crossing_pixel, crossing_pixels, ends_at, crossings_at, along_cmp}
+use Rattle.grid_core.specs.Rounding.{end_points, crossing_pixel, crossing_pixels, along_cmp}
 use Rattle.grid_core.specs.Tiles.{in_tile, meets_tile, near}
-use Rattle.grid_core.proofs.Comparisons.{point_decides}
 use Rattle.grid_core.proofs.Filters.{counted}
 use Rattle.grid_core.proofs.ListMembers.{counted_iff, contains_filter}
 use Rattle.grid_core.proofs.Order.{point_total, point_exact}
@@ -32,7 +31,6 @@ use Rattle.grid_core.proofs.RisingSets.{filter_rising}
 use Rattle.grid_core.proofs.RouteOrder.{along_and_pixel_total, along_and_pixel_exact, rising_by_product}
 use Rattle.tile_law.specs.Parts.{hot_in, route_among}
 use Rattle.tile_law.specs.OneMore.{own_ends, own_crossings}
-use Rattle.tile_law.proofs.Kept.{count_kept}
 use Rattle.tile_law.proofs.Edits.{near_with_met}
 use Rattle.tile_law.proofs.OneMoreCounts.{ends_with, crossings_with}
 
@@ -190,23 +188,6 @@ module _ (pr : Sizes) (t : TileId) where
 
         both : (p : Point → Bool) (hs ks : List Point) → count_by p (hs ++ ks) ≡ count_by p hs + count_by p ks
         both p hs ks = sum_by-append (λ h. cond (p h) 1 0) hs ks
-
-    -- the two counts of a pixel of the tile
-    at_pixel : (h : Point) → IsTrue (in_tile pr t h) → (g : Point) → point_eq h g ≡ true → in_tile pr t g ≡ true
-    at_pixel h i g e = subst (λ k. in_tile pr t k ≡ true) ((point_decides h g).0 e) i
-
-    pub ends_at_with : (h : Point) → IsTrue (in_tile pr t h)
-        → ends_at (with_segment ss s) h ≡ ends_at ss h + count_by (point_eq h) (own_ends pr t s)
-    ends_at_with h i =
-        ends_with ss s order new (point_eq h)
-        ∙ ap (λ n. ends_at ss h + n) (sym (count_kept (in_tile pr t) (point_eq h) (at_pixel h i) (s.p ∷ s.q ∷ [])))
-
-    pub crossings_at_with : (h : Point) → IsTrue (in_tile pr t h)
-        → crossings_at (with_segment ss s) h ≡ crossings_at ss h + count_by (point_eq h) (own_crossings pr t ss s)
-    crossings_at_with h i =
-        crossings_with ss s order new (point_eq h)
-        ∙ ap (λ n. crossings_at ss h + n)
-        (sym (count_kept (in_tile pr t) (point_eq h) (at_pixel h i) (filter_map (crossing_pixel s) ss)))
 
   -- ---- the segments that meet the tile
 
