@@ -162,65 +162,82 @@ fn some_inside(vertices: &[Point], lines: &[[Point; 2]]) -> bool {
     false
 }
 
+/// Tests the edges of the first `count` segments pairwise, and against each vertex. Wanted are
+/// whether two of the segments meet elsewhere than at a common end, and how many vertices and edges
+/// there are.
+fn test_edges(
+    rt: &impl Abort,
+    alloc: Global,
+    row: &str,
+    count: usize,
+    ends: [[i64; 4]; 4],
+    want: (bool, usize, usize),
+) -> Result<(), Fail>
+    requires { count ≤ 4 }
+{
+    let (meet, vertices, edges) = want;
+    let drawn = drawn(alloc, count, ends)?;
+    assert_eq!(rt; some_meet_inside(&drawn), meet, "{row}: as it is drawn");
+
+    let planar = rounded(rt, alloc, count, ends)?;
+    let lines = edge_lines(alloc, &planar)?;
+    assert!(rt;
+        !some_meet_inside(&lines),
+        "{row}: edges meet at common ends alone"
+    );
+    assert!(rt;
+        !some_inside(planar.vertices(), &lines),
+        "{row}: no vertex is inside an edge"
+    );
+    assert_eq!(rt; planar.vertices().len(), vertices, "{row}: vertices");
+    assert_eq!(rt; planar.edges().len(), edges, "{row}: edges");
+    Ok(())
+}
+
 #[test]
 fn worked_drawings(rt: HostRuntime) -> Result<(), Fail> {
-    for (row, count, ends, meet, vertices, edges) in [
-        ("nothing", 0, [UNUSED, UNUSED, UNUSED, UNUSED], false, 0, 0),
+    for (row, count, ends, want) in [
+        (
+            "nothing",
+            0,
+            [UNUSED, UNUSED, UNUSED, UNUSED],
+            (false, 0, 0),
+        ),
         (
             "half_exactly",
             2,
             [[0, 0, 5, 2], [0, 2, 5, 0], UNUSED, UNUSED],
-            true,
-            5,
-            4,
+            (true, 5, 4),
         ),
         (
             "closed_corner",
             3,
             [[0, 0, 5, 2], [0, 2, 5, 0], [2, 1, 3, 0], UNUSED],
-            true,
-            7,
-            6,
+            (true, 7, 6),
         ),
         (
             "open_corner",
             3,
             [[0, 0, 5, 2], [0, 2, 5, 0], [3, 0, 4, 1], UNUSED],
-            true,
-            7,
-            6,
+            (true, 7, 6),
         ),
         (
             "same_ends_twice",
             2,
             [[0, 0, 4, 0], [4, 0, 0, 0], UNUSED, UNUSED],
-            false,
-            2,
-            1,
+            (false, 2, 1),
         ),
         (
             "overlap_and_touch",
             3,
             [[0, 0, 10, 0], [5, 0, 15, 0], [5, 0, 5, 5], UNUSED],
-            true,
-            5,
-            4,
+            (true, 5, 4),
         ),
         (
             "tile_border",
             2,
             [[250, 0, 260, 0], [255, -1, 256, 1], UNUSED, UNUSED],
-            true,
-            5,
-            4,
-        ),
-        (
-            "hostile_drawings",
-            4,
-            [[-3, 0, 3, 0], [0, -3, 0, 3], [-3, -3, 3, 3], [-3, 3, 3, -3]],
-            true,
-            9,
-            8,
+            (true, 5, 4),
         ),
         (
             "flat and steep",
@@ -231,36 +248,31 @@ fn worked_drawings(rt: HostRuntime) -> Result<(), Fail> {
                 [10, -3, 20, 4],
                 [14, 5, 15, -5],
             ],
-            true,
-            11,
-            11,
+            (true, 11, 11),
         ),
         (
             "nearly parallel",
             4,
             [[0, 0, 40, 3], [0, 2, 40, 1], [0, 1, 40, 2], [3, 3, 37, 0]],
-            true,
-            9,
-            8,
+            (true, 9, 8),
         ),
     ] {
-        let drawn = drawn(rt.alloc(), count, ends)?;
-        assert_eq!(rt; some_meet_inside(&drawn), meet, "{row}: as it is drawn");
-
-        let planar = rounded(&rt, rt.alloc(), count, ends)?;
-        let lines = edge_lines(rt.alloc(), &planar)?;
-        assert!(rt;
-            !some_meet_inside(&lines),
-            "{row}: edges meet at common ends alone"
-        );
-        assert!(rt;
-            !some_inside(planar.vertices(), &lines),
-            "{row}: no vertex is inside an edge"
-        );
-        assert_eq!(rt; planar.vertices().len(), vertices, "{row}: vertices");
-        assert_eq!(rt; planar.edges().len(), edges, "{row}: edges");
+        test_edges(&rt, rt.alloc(), row, count, ends, want)?;
     }
     Ok(())
+}
+
+#[test]
+fn hostile_drawings(rt: HostRuntime) -> Result<(), Fail> {
+    let star = [[-3, 0, 3, 0], [0, -3, 0, 3], [-3, -3, 3, 3], [-3, 3, 3, -3]];
+    test_edges(
+        &rt,
+        rt.alloc(),
+        "four through one point",
+        4,
+        star,
+        (true, 9, 8),
+    )
 }
 
 #[test]
