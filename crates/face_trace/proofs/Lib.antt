@@ -1,0 +1,9 @@
+pub mod AroundOrder
+pub mod Building
+pub mod HalfEdgeLists
+pub mod Linking
+pub mod LinksSoFar
+pub mod NextAround
+pub mod SpokeLists
+pub mod Tracing
+pub mod Walks

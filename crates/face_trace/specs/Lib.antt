@@ -1,0 +1,3 @@
+pub mod HalfEdge
+pub mod Spokes
+pub mod Links
