@@ -266,7 +266,7 @@ clockwise_trans d e f h k = clockwise_of d f (by (clockwise_less d e h) (clockwi
         inr (
           p.0 ∙ q.0,
           negative_sum w.le w.ld w.lf (cross_of d f) (cross_of e f) (cross_of d e)
-          w.positive_e w.positive_d w.positive_f w.balance q.1 p.1,
+              w.positive_e w.positive_d w.positive_f w.balance q.1 p.1,
         )
 
 clockwise_congr : (d e f : Point) → clockwise_cmp d e ≡ Equal → clockwise_cmp d f ≡ clockwise_cmp e f

@@ -11,7 +11,7 @@ use Rattle.grid_core.specs.Edge.{EdgeEnds, IsEdge, edge_cmp}
 use Rattle.grid_core.specs.Contours.{HalfEdge, half_edges, next}
 use Rattle.grid_core.proofs.Order.{point_total}
 use Rattle.face_trace.specs.declared.spokes.Spoke.{Spoke}
-use Rattle.face_trace.specs.HalfEdge.{IsNear, twin_number}
+use Rattle.face_trace.specs.HalfEdge.{IsWithinReach, twin_number}
 use Rattle.face_trace.specs.Links.{edges_of, AreLinked}
 use Rattle.face_trace.specs.Spokes.{AreSpokes, AreNexts}
 use Rattle.face_trace.proofs.HalfEdgeLists.{twin_within}
@@ -34,16 +34,16 @@ edges_of_half_edges (e ∷ es) k =
         (filter (λ h. is_lt (point_cmp h.origin h.target)) (half_edges ds))
 
 -- the half-edges are near where the edges' ends are
-near_half_edges : (es : List EdgeEnds) → All (λ e. IsWithin (2 ^ 30) e.a) es → All (λ e. IsWithin (2 ^ 30) e.b) es
-    → All IsNear (half_edges es)
-near_half_edges [] p q = All-nil IsNear
-near_half_edges (e ∷ es) p q =
+half_edges_within : (es : List EdgeEnds) → All (λ e. IsWithin (2 ^ 30) e.a) es → All (λ e. IsWithin (2 ^ 30) e.b) es
+    → All IsWithinReach (half_edges es)
+half_edges_within [] p q = All-nil IsWithinReach
+half_edges_within (e ∷ es) p q =
     let a = All-head (λ (d : EdgeEnds). IsWithin (2 ^ 30) d.a) e es p in
     let b = All-head (λ (d : EdgeEnds). IsWithin (2 ^ 30) d.b) e es q in
-    All-cons IsNear (record { origin = e.a; target = e.b }) (record { origin = e.b; target = e.a } ∷ half_edges es)
+    All-cons IsWithinReach (record { origin = e.a; target = e.b }) (record { origin = e.b; target = e.a } ∷ half_edges es)
     (record { origin = a; target = b })
-    (All-cons IsNear (record { origin = e.b; target = e.a }) (half_edges es) (record { origin = b; target = a })
-    (near_half_edges es (All-tail (λ (d : EdgeEnds). IsWithin (2 ^ 30) d.a) e es p)
+    (All-cons IsWithinReach (record { origin = e.b; target = e.a }) (half_edges es) (record { origin = b; target = a })
+    (half_edges_within es (All-tail (λ (d : EdgeEnds). IsWithin (2 ^ 30) d.a) e es p)
     (All-tail (λ (d : EdgeEnds). IsWithin (2 ^ 30) d.b) e es q)))
 
 -- the twins of the spokes have numbers too
@@ -66,7 +66,7 @@ built es hs ss nexts e edges rising starts ends spokes made =
     (record {
       edges = edges;
       rising = rising;
-      near = near_half_edges es starts ends;
+      within = half_edges_within es starts ends;
       numbered = refl;
       count = made.count ∙ spokes.count ∙ ap length e;
       linked = linked es ss (subst (λ gs. AreSpokes gs ss) e spokes) (record { half = nowhere; number = 0 }) nexts made;

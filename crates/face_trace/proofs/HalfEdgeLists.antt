@@ -85,8 +85,7 @@ module _ (d : EdgeEnds) (p : IsEdge d) where
       → AllByRecursion (λ h. half_edge_eq (record { origin = d.a; target = d.b }) h ≡ false) (half_edges es)
   forward_apart [] s k = tt
   forward_apart (e ∷ es) s k =
-      let q = All-head IsEdge e es k in
-      (
+      let q = All-head IsEdge e es k in (
         differ _ _ (λ j. alike d e s.0 (ap (λ (h : HalfEdge). h.origin) j) (ap (λ (h : HalfEdge). h.target) j)),
         (
           differ _ _ (λ j. opposite d e p q (ap (λ (h : HalfEdge). h.origin) j) (ap (λ (h : HalfEdge). h.target) j)),
@@ -98,8 +97,7 @@ module _ (d : EdgeEnds) (p : IsEdge d) where
       → AllByRecursion (λ h. half_edge_eq (record { origin = d.b; target = d.a }) h ≡ false) (half_edges es)
   backward_apart [] s k = tt
   backward_apart (e ∷ es) s k =
-      let q = All-head IsEdge e es k in
-      (
+      let q = All-head IsEdge e es k in (
         differ _ _ (λ j. opposite d e p q (ap (λ (h : HalfEdge). h.target) j) (ap (λ (h : HalfEdge). h.origin) j)),
         (
           differ _ _ (λ j. alike d e s.0 (ap (λ (h : HalfEdge). h.target) j) (ap (λ (h : HalfEdge). h.origin) j)),
@@ -115,11 +113,10 @@ half_edges_distinct [] s k = tt
 half_edges_distinct (e ∷ es) s k =
     let p = All-head IsEdge e es k in
     let rest = All-tail IsEdge e es k in
-    let more = sorted_head edge_cmp e es s in
-    (
+    let more = sorted_head edge_cmp e es s in (
       (
         differ (record { origin = e.a; target = e.b }) (record { origin = e.b; target = e.a })
-        (λ j. opposite e e p p (ap (λ (h : HalfEdge). h.origin) j) (ap (λ (h : HalfEdge). h.target) j)),
+            (λ j. opposite e e p p (ap (λ (h : HalfEdge). h.origin) j) (ap (λ (h : HalfEdge). h.target) j)),
         forward_apart e p es more rest,
       ),
       (backward_apart e p es more rest, half_edges_distinct es (sorted_tail edge_cmp e es s) rest),

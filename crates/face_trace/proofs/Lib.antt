@@ -1,5 +1,6 @@
 pub mod AroundOrder
 pub mod Building
+pub mod Drawings
 pub mod HalfEdgeLists
 pub mod Linking
 pub mod LinksSoFar

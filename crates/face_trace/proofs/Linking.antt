@@ -89,9 +89,12 @@ module _ (es : List EdgeEnds) (ss : List Spoke) (spokes : AreSpokes (half_edges 
   spoke_of h c =
       let a = spokes.complete c.0 c.1 in
       let at : get_or ss a.0 d ≡ a.1 = get_or_default ss a.0 d a.1 a.2 ∙ a.3 in
-      let number : (get_or ss a.0 d).number ≡ c.0 = ap (λ (s : Spoke). s.number) at ∙ a.4 in
-      (a.0, a.2, same_Some (half a.0) h (sym (numbered a.0 a.2) ∙ ap (slice_get (half_edges es)) number
-      ∙ slice_get-get_or (half_edges es) c.0 h c.1 ∙ ap Some c.2))
+      let number : (get_or ss a.0 d).number ≡ c.0 = ap (λ (s : Spoke). s.number) at ∙ a.4 in (
+        a.0,
+        a.2,
+        same_Some (half a.0) h (sym (numbered a.0 a.2) ∙ ap (slice_get (half_edges es)) number
+            ∙ slice_get-get_or (half_edges es) c.0 h c.1 ∙ ap Some c.2),
+      )
 
   -- a neighbour of the start of the spoke at p has a spoke there too
   spoke_to : (p : ℕ) (x : Point) → p < length ss → Contains (around es (half p).origin) x

@@ -102,9 +102,9 @@ pub run_ends : (ss : List Spoke) (f i : ℕ) → IsRun ss f i → i < length ss
 run_ends ss f i run l s t is_s is_t n = record {
   below = omega arith;
   first = λ h d e. n (
-    ap (λ (u : Spoke). u.half.origin) (is_s ∙ get_or_default ss f s d (omega (arith, run.below, l)))
-    ∙ run.one_start h d ∙ e
-    ∙ ap (λ (u : Spoke). u.half.origin) (sym (is_t ∙ get_or_default ss i t d l)));
+      ap (λ (u : Spoke). u.half.origin) (is_s ∙ get_or_default ss f s d (omega (arith, run.below, l)))
+      ∙ run.one_start h d ∙ e
+      ∙ ap (λ (u : Spoke). u.half.origin) (sym (is_t ∙ get_or_default ss i t d l)));
   one_start = λ h d. ap (λ j. (get_or ss j d).half.origin) (back i);
 }
   where

@@ -90,7 +90,7 @@ module _ (es : List EdgeEnds) (v : Point) where
       → Contains (half_edges es) (record { origin = v; target = x })
   to_half_edge x c =
       let a = (contains_map (λ (h : HalfEdge). h.target) (filter (λ h. point_eq h.origin v) (half_edges es)) x).0
-          ((contains_rising (around_total v) (around_exact v) (neighbours es v) x).0 c) in
+      ((contains_rising (around_total v) (around_exact v) (neighbours es v) x).0 c) in
       let kept = (contains_filter (λ h. point_eq h.origin v) (half_edges es) a.1).0 (a.0, a.2, a.3) in
       let origin : a.1.origin ≡ v = (point_decides a.1.origin v).0 kept.1 in
       let target : a.1.target ≡ x = a.4 in
@@ -218,13 +218,13 @@ module _ (es : List EdgeEnds) (v : Point) where
           → c.0 ≡ e.0
       by g (inl p) (inl q) =
           let one = one_place (around_total v) (around es v) (suc c.0) (suc e.0) u rises p q
-              (sym (next_later c.0 u p) ∙ g ∙ next_later e.0 u q) in omega (arith, one)
+          (sym (next_later c.0 u p) ∙ g ∙ next_later e.0 u q) in omega (arith, one)
       by g (inl p) (inr q) =
           let one = one_place (around_total v) (around es v) (suc c.0) 0 u rises p some
-              (sym (next_later c.0 u p) ∙ g ∙ next_wraps e.0 u e.1 q) in absurd (omega (arith, one))
+          (sym (next_later c.0 u p) ∙ g ∙ next_wraps e.0 u e.1 q) in absurd (omega (arith, one))
       by g (inr p) (inl q) =
           let one = one_place (around_total v) (around es v) 0 (suc e.0) u rises some q
-              (sym (next_wraps c.0 u c.1 p) ∙ g ∙ next_later e.0 u q) in absurd (omega (arith, one))
+          (sym (next_wraps c.0 u c.1 p) ∙ g ∙ next_later e.0 u q) in absurd (omega (arith, one))
       by g (inr p) (inr q) = omega (arith, p, q, c.1, e.1)
 
 -- ---- half-edges

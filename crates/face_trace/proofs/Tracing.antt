@@ -20,7 +20,7 @@ use Rattle.grid_core.specs.Edge.{EdgeEnds}
 use Rattle.grid_core.specs.Contours.{HalfEdge, half_edge_cmp, half_edge_eq, half_edges, next, walk, least_of, area2_of, boundary_of}
 use Rattle.grid_core.specs.Contours.{BoundaryWalk, contour_walk, contour_of}
 use Rattle.grid_core.proofs.Signed.{signed, abs-add}
-use Rattle.face_trace.specs.HalfEdge.{IsNear}
+use Rattle.face_trace.specs.HalfEdge.{IsWithinReach}
 use Rattle.face_trace.specs.Links.{AreLinked, IsLesser, IsNumberOf}
 use Rattle.face_trace.proofs.HalfEdgeLists.{half_decides, half_total, half_edges_distinct}
 use Rattle.face_trace.proofs.SpokeLists.{nowhere}
@@ -321,7 +321,7 @@ module _ {es : List EdgeEnds} {hs : List HalfEdge} {nexts : List ℕ} (linked : 
         by false e =
             let m : slice_index nexts at ≢ start = λ t. true≢false (sym ((Decides-eqb _ _).1 t) ∙ e) in
             let l = goes_on linked start first (slice_index nexts at) (so.k + 1) (leads_within linked at so.within)
-                (omega (arith, searching n)) next_at m in
+            (omega (arith, searching n)) next_at m in
             let after_it : left es hs start (slice_index nexts at) ≡ length (walk es (half hs start)) - (so.k + 1) =
             ap (λ b. if b then 0
             else length (walk es (half hs start)) - position_or_len (half_edge_eq (half hs (slice_index nexts at))) (walk es (half hs start))) e
@@ -349,18 +349,15 @@ module _ {es : List EdgeEnds} {hs : List HalfEdge} {nexts : List ℕ} (linked : 
 
   module _ (start : ℕ) (first : start < length hs) where
     module _ {at : ℕ} {points : List Point} {area2 : ℤ} (so : IsTraced es hs start at points area2)
-        (g h : HalfEdge) (is_g : g ≡ get_or hs at g) (is_h : h ≡ get_or hs at h) (next : ℕ) (is_next : next ≡ get_or nexts at next)
-        (point : Point) (is_point : point ≡ g.origin) (cross : ℤ) (is_cross : cross ≡ cross_of h.origin h.target)
+        (g : HalfEdge) (is_g : g ≡ get_or hs at g) (next : ℕ) (is_next : next ≡ get_or nexts at next)
+        (point : Point) (is_point : point ≡ g.origin) (cross : ℤ) (is_cross : cross ≡ cross_of g.origin g.target)
         (small : unsigned_abs cross ≤ 2 ^ 61) (all : List Point) (is_all : all ≡ points ++ point ∷ [])
         (sum : ℤ) (is_sum : sum ≡ area2 +ℤ cross) where
       here_g : g ≡ half hs at
       here_g = is_g ∙ get_or_default hs at g nowhere so.within
 
-      here_h : h ≡ half hs at
-      here_h = is_h ∙ get_or_default hs at h nowhere so.within
-
       the_cross : cross ≡ cross_of (half hs at).origin (half hs at).target
-      the_cross = is_cross ∙ (λ i. cross_of (here_h i).origin (here_h i).target)
+      the_cross = is_cross ∙ (λ i. cross_of (here_g i).origin (here_g i).target)
 
       the_points : all ≡ points ++ (half hs at).origin ∷ []
       the_points = is_all ∙ (λ i. points ++ (is_point ∙ ap (λ (k : HalfEdge). k.origin) here_g) i ∷ [])
@@ -450,7 +447,7 @@ module _ (es : List EdgeEnds) (h : HalfEdge) (c : Contains (half_edges es) h) wh
           let count : length (walk es h) ≡ suc (length rest) = ap length e in
           let at_e = λ (k : ℕ). ap (λ gs. get_or gs k nowhere) e in
           let steps : (k : ℕ) → suc k < length (g ∷ rest)
-              → (get_or (g ∷ rest) k nowhere).target ≡ (get_or (g ∷ rest) (suc k) nowhere).origin =
+          → (get_or (g ∷ rest) k nowhere).target ≡ (get_or (g ∷ rest) (suc k) nowhere).origin =
           λ k l. ap (λ (f : HalfEdge). f.target) (sym (at_e k))
           ∙ ends_at_next k (omega (arith, l, count))
           ∙ ap (λ (f : HalfEdge). f.origin) (sym (closed.at (suc k) nowhere (omega (arith, l, count))) ∙ at_e (suc k)) in
@@ -504,10 +501,10 @@ number_is hs h same is r e =
 
 -- a half-edge that isn't near isn't there
 pub far_away : {es : List EdgeEnds} {hs : List HalfEdge} {nexts : List ℕ} → AreLinked es hs nexts
-    → (h : HalfEdge) → (IsNear h → ⊥) → list_any (half_edge_eq h) (half_edges es) ≡ false
+    → (h : HalfEdge) → (IsWithinReach h → ⊥) → list_any (half_edge_eq h) (half_edges es) ≡ false
 far_away {es} {hs} linked h far =
     false_from_ne_true _ (λ t.
-    far (All-contains IsNear hs h linked.near
+    far (All-contains IsWithinReach hs h linked.within
     (subst (λ gs. Contains gs h) (sym linked.numbered)
     (Contains-from_any (λ x y d. (half_decides x y).0 d) h (half_edges es) t))))
 

@@ -14,6 +14,9 @@ use Rattle.std.proofs.lemmas.Map.Made.{length-le_from_is_member}
 use Rattle.std.proofs.lemmas.Map.Views.{Contains-from_any, list_any-from_Contains}
 use Rattle.grid_core.specs.Edge.{EdgeEnds}
 use Rattle.grid_core.specs.Contours.{HalfEdge, half_edges, half_edge_eq, next, steps_after, walk}
+use Rattle.std.specs.Prelude.{slice_get, option_map, Some}
+use Rattle.std.proofs.lemmas.Option.{slice_get-get_or}
+use Rattle.face_trace.specs.Laws.{ComesBack}
 use Rattle.face_trace.proofs.HalfEdgeLists.{half_decides, half_total}
 use Rattle.face_trace.proofs.NextAround.{next_is_half_edge, next_is_one_to_one}
 
@@ -142,3 +145,31 @@ module _ (es : List EdgeEnds) where
       last : get_or (steps_after es n h) m h ≡ h
       last = (half_decides _ _).0 (turned (half_edge_eq (get_or (steps_after es n h) m h) h)
           (prefix_len_stops test (steps_after es n h) h (omega (arith, short, count_steps n h))))
+
+  -- the orbit as the law tells it
+  pub comes_back : (h : HalfEdge) → Contains (half_edges es) h → ComesBack es h
+  comes_back h c =
+      let orbit = walk_is_orbit h c in
+      record {
+        begins = refl;
+        goes_on = λ k l.
+            slice_get-get_or (walk es h) (k + 1) h l
+            ∙ ap Some (orbit.at (k + 1) h l ∙ ap (after h) (one_more k) ∙ after_next h k
+            ∙ ap (next es) (sym (orbit.at k h (omega (arith, l)))))
+            ∙ sym (ap (option_map (next es)) (slice_get-get_or (walk es h) k h (omega (arith, l))));
+        once = IsDistinct-from_apart half_edge_eq (walk es h)
+            (λ i j d k l. false_from_ne_true _ (λ t. orbit.once i j k l
+            (sym (orbit.at i d (omega (arith, k, l))) ∙ (half_decides _ _).0 t ∙ orbit.at j d l)));
+        comes_back =
+            ap (option_map (next es)) (slice_get-get_or (walk es h) (length (walk es h) - 1) h (omega (arith, orbit.some)))
+            ∙ ap Some (ap (next es) (orbit.at (length (walk es h) - 1) h (omega (arith, orbit.some)))
+            ∙ sym (after_next h (length (walk es h) - 1))
+            ∙ ap (after h) (last_more (length (walk es h)) orbit.some)
+            ∙ orbit.comes_back);
+      }
+    where
+      one_more : (n : ℕ) → n + 1 ≡ suc n
+      one_more n = omega arith
+
+      last_more : (n : ℕ) → 0 < n → suc (n - 1) ≡ n
+      last_more n l = omega arith

@@ -6,7 +6,7 @@ use Rattle.grid_core.specs.Vector.{point_cmp, IsWithin}
 use Rattle.grid_core.specs.Contours.{HalfEdge, around_cmp}
 
 -- no coordinate of the two ends is greater than 2 ^ 30 in size
-pub record IsNear (h : HalfEdge) : Type 0 where
+pub record IsWithinReach (h : HalfEdge) : Type 0 where
   pub origin : IsWithin (2 ^ 30) h.origin
   pub target : IsWithin (2 ^ 30) h.target
 

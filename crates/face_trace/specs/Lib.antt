@@ -1,3 +1,4 @@
 pub mod HalfEdge
 pub mod Spokes
 pub mod Links
+pub mod Laws

@@ -1,14 +1,15 @@
 -- The half-edges of a drawing by number, each with the number of its next.
-use Rattle.std.specs.Prelude.{◌≡◌, ℕ, ◌<◌, false, if◌then◌else◌, Option, Some, option_map, MatchOption}
+use Rattle.std.specs.Prelude.{◌≡◌, ℕ, ◌<◌, ◌-◌, ◌^◌, false, if◌then◌else◌, Option, Some, option_map, MatchOption}
 use Rattle.std.specs.Prelude.{List, length, map, filter, slice_get, slice_index, slice_index_or, All}
 use Rattle.std.specs.List.{list_any}
+use Rattle.std.specs.declared.cmp.Ordering.TheVariants.{Less}
 use Rattle.std.specs.Ordering.{is_lt}
 use Rattle.std.specs.List.Sorted.{IsStrictlySortedBy}
-use Rattle.grid_core.specs.Vector.{point_cmp}
+use Rattle.grid_core.specs.Vector.{point_cmp, IsWithin}
 use Rattle.grid_core.specs.Edge.{EdgeEnds, IsEdge, edge_cmp}
 use Rattle.grid_core.specs.Contours.{HalfEdge, half_edge_cmp, half_edge_eq, half_edges, next, walk}
 use Rattle.grid_core.specs.Contours.{least_of, BoundaryWalk, boundary_of}
-use Rattle.face_trace.specs.HalfEdge.{IsNear}
+use Rattle.face_trace.specs.HalfEdge.{IsWithinReach}
 
 -- the edges of half-edges: of those that run from the lesser end to the greater
 abbrev pub edges_of : List HalfEdge → List EdgeEnds
@@ -16,12 +17,24 @@ edges_of hs =
     map (λ h. record { a = h.origin; b = h.target })
     (filter (λ h. is_lt (point_cmp h.origin h.target)) hs)
 
+-- the edges rise, each once, and lie within 2 ^ 30
+pub record AreEdgesInOrder (es : List EdgeEnds) : Type 0 where
+  pub rising : IsStrictlySortedBy edge_cmp es
+  pub starts_within : All (λ e. IsWithin (2 ^ 30) e.a) es
+  pub ends_within : All (λ e. IsWithin (2 ^ 30) e.b) es
+
+-- the edge at i lies within 2 ^ 30, and comes after the one before it
+pub record IsPlaced (es : List EdgeEnds) (i : ℕ) : Type 0 where
+  pub start_within : (d : EdgeEnds) → IsWithin (2 ^ 30) (slice_index_or es i d).a
+  pub end_within : (d : EdgeEnds) → IsWithin (2 ^ 30) (slice_index_or es i d).b
+  pub after : 0 < i → (d : EdgeEnds) → edge_cmp (slice_index_or es (i - 1) d) (slice_index_or es i d) ≡ Less
+
 -- the edges rise and lie within 2 ^ 30, their half-edges are numbered in their order, and the link of each
 -- leads to its next
 pub record AreLinked (es : List EdgeEnds) (hs : List HalfEdge) (nexts : List ℕ) : Type 0 where
   pub edges : All IsEdge es
   pub rising : IsStrictlySortedBy edge_cmp es
-  pub near : All IsNear hs
+  pub within : All IsWithinReach hs
   pub numbered : hs ≡ half_edges es
   pub count : length nexts ≡ length hs
   pub linked : (n : ℕ) → n < length hs

@@ -9,7 +9,7 @@ pub struct Contour {
     /// The start points of its half-edges, from its least half-edge on.
     pub points: Vec<Point>,
     /// Twice the signed area: the sum of the cross products of neighbouring points, the last with
-    /// the first. Its size is at most 2^61 for each point.
+    /// the first. Its size is at most 2^61 times the number of points.
     pub area2: i128,
 }
 

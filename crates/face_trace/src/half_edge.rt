@@ -21,13 +21,13 @@ pub(crate) struct HalfEdge {
 
 impl Model for HalfEdge {
     ghost use Rattle.grid_core.specs.Contours.{HalfEdge as Directed};
-    ghost use Rattle.face_trace.specs.HalfEdge.{IsNear};
+    ghost use Rattle.face_trace.specs.HalfEdge.{IsWithinReach};
 
     ghost Value = { Directed };
 
     ghost view = { λ h. record { origin = h.origin; target = h.target } };
 
-    ghost invariant = { λ h. IsNear (record { origin = h.origin; target = h.target }) };
+    ghost invariant = { λ h. IsWithinReach (record { origin = h.origin; target = h.target }) };
 
     ghost inverse = { λ h. record { origin = h.origin; target = h.target } };
 }
@@ -48,7 +48,7 @@ impl Hash for HalfEdge {
 impl HalfEdge {
     ghost use Rattle.std.specs.Prelude.{◌≡◌, ◌≤◌, ◌^◌, unsigned_abs};
     ghost use Rattle.grid_core.specs.Vector.{IsWithin, cross_of};
-    ghost use Rattle.face_trace.specs.HalfEdge.{spoke_cmp, IsNear};
+    ghost use Rattle.face_trace.specs.HalfEdge.{spoke_cmp, IsWithinReach};
 
     /// The half-edge from `origin` to `target`.
     #[inline(always)]

@@ -2,11 +2,10 @@
 
 ghost use Rattle.std.specs.Prelude.{◌≡◌, ◌^◌, ◌*◌, ◌≤◌, ◌<◌, ◌↔◌, ◌+ℤ◌, unsigned_abs};
 ghost use Rattle.std.specs.Prelude.{length, All, IfOk, IfSome, IsTrue};
-ghost use Rattle.std.specs.List.Sorted.{IsStrictlySortedBy};
 ghost use Rattle.grid_core.specs.Vector.{IsWithin};
-ghost use Rattle.grid_core.specs.Edge.{IsEdge, edge_cmp};
+ghost use Rattle.grid_core.specs.Edge.{IsEdge};
 ghost use Rattle.grid_core.specs.Contours.{contour_of, half_edges};
-ghost use Rattle.face_trace.specs.Links.{IsNumberOf, IsLesser, IsLeastFrom, IsContourFrom};
+ghost use Rattle.face_trace.specs.Links.{AreEdgesInOrder, IsPlaced, IsNumberOf, IsLesser, IsLeastFrom, IsContourFrom};
 
 use crate::contour::Contour;
 use crate::half_edge::HalfEdge;
@@ -36,11 +35,22 @@ impl Model for HalfEdges {
 }
 
 impl HalfEdges {
-    /// The half-edges of `edges`, which rise.
+    /// Whether `build` takes these edges: they are in rising order, each once, and no coordinate is
+    /// greater than 2^30 in size.
+    pub fn takes(edges: &[Edge]) -> bool
+        ensures { IsTrue result ↔ AreEdgesInOrder edges.now }
+    {
+        for i in 0..edges.len() {
+            if !is_placed(edges, i) {
+                return false;
+            }
+        }
+        true
+    }
+
+    /// The half-edges of these edges. The call takes as long as one sort of them.
     pub fn build(alloc: Global, edges: &[Edge]) -> Result<HalfEdges, Memory>
-        requires rising { IsStrictlySortedBy edge_cmp edges.now }
-        requires starts_within { All (λ e. IsWithin (2 ^ 30) e.a) edges.now }
-        requires ends_within { All (λ e. IsWithin (2 ^ 30) e.b) edges.now }
+        requires { AreEdgesInOrder edges.now }
         ensures { IfOk result (λ h. h ≡ edges.now) }
     {
         let halves = numbered(alloc, edges)?;
@@ -66,7 +76,7 @@ impl HalfEdges {
         ensures { IsNumberOf (half_edges self.now) (record { origin = from; target = to }) result }
     {
         let halves = &self.halves;
-        if is_near(from) && is_near(to) {
+        if is_within(from) && is_within(to) {
             halves.get_index_of(&HalfEdge::between(from, to))
         } else {
             None
@@ -99,9 +109,11 @@ impl HalfEdges {
         let mut area2 = 0;
         let mut at = start;
         loop {
-            points.push(halves[at].origin())?;
-            area2 = sum(area2, halves[at].cross());
+            let half = halves[at];
+            let cross = half.cross();
+            points.push(half.origin())?;
             at = self.nexts[at];
+            area2 = sum(area2, cross);
             if at == start {
                 break;
             }
@@ -117,7 +129,11 @@ fn lesser(halves: &[HalfEdge], at: usize, least: usize) -> usize
     requires least_within { least < length halves.now }
     ensures { IsLesser halves.now at least result }
 {
-    if halves[at] < halves[least] { at } else { least }
+    if halves[at] < halves[least] {
+        at
+    } else {
+        least
+    }
 }
 
 /// `a + b`, where `b` is at most 2^61 in size and `a` the sum of fewer than 2^64 such numbers.
@@ -130,9 +146,20 @@ fn sum(a: i128, b: i128) -> i128
     a + b
 }
 
+/// Whether the edge at `i` lies within 2^30, and comes after the one before it.
+fn is_placed(edges: &[Edge], i: usize) -> bool
+    requires { i < length edges.now }
+    ensures { IsTrue result ↔ IsPlaced edges.now i }
+{
+    if !is_within(edges[i].a()) || !is_within(edges[i].b()) {
+        return false;
+    }
+    i == 0 || edges[i - 1] < edges[i]
+}
+
 /// Whether neither coordinate is greater than 2^30 in size.
 #[inline(always)]
-fn is_near(a: Point) -> bool
+fn is_within(a: Point) -> bool
     ensures { IsTrue result ↔ IsWithin (2 ^ 30) a }
 {
     a.x.unsigned_abs() <= 1 << 30 && a.y.unsigned_abs() <= 1 << 30
@@ -140,9 +167,7 @@ fn is_near(a: Point) -> bool
 
 /// The half-edges of each edge in turn, from its lesser end and from its greater end.
 fn numbered(alloc: Global, edges: &[Edge]) -> Result<IndexSet<HalfEdge>, Memory>
-    requires rising { IsStrictlySortedBy edge_cmp edges.now }
-    requires starts_within { All (λ e. IsWithin (2 ^ 30) e.a) edges.now }
-    requires ends_within { All (λ e. IsWithin (2 ^ 30) e.b) edges.now }
+    requires { AreEdgesInOrder edges.now }
     ensures keys { IfOk result (λ s. s.keys ≡ half_edges edges.now) }
     ensures edges { IfOk result (λ s. All IsEdge edges.now) }
 {

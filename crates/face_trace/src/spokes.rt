@@ -49,7 +49,7 @@ pub(crate) fn nexts_of(alloc: Global, spokes: &[Spoke]) -> Result<Vec<usize>, Me
     Ok(nexts)
 }
 
-/// The place of the first spoke with the start of the one at `i`, where `first` is that of the one
+/// The index of the first spoke with the start of the one at `i`, where `first` is that of the one
 /// before.
 #[inline(always)]
 fn first_of_start(spokes: &[Spoke], first: usize, i: usize) -> usize
@@ -64,7 +64,7 @@ fn first_of_start(spokes: &[Spoke], first: usize, i: usize) -> usize
     }
 }
 
-/// The place of the spoke that follows the one at `i`, where the first of its start is at `first`.
+/// The index of the spoke that follows the one at `i`, where the first of its start is at `first`.
 #[inline(always)]
 fn follower(spokes: &[Spoke], first: usize, i: usize) -> usize
     requires within { i < length spokes.now }

@@ -14,24 +14,24 @@ loop-points-init c =
 pub loop-points-preserved : goal.loop-points-preserved
 loop-points-preserved c =
     let linked = linked_as _ _ _ _ _ c.self.view_is c.as_slice-halves.ensures.keys c.self.invariant in
-    let fits_cross : SFits w128 c.cross.result = search rules in
+    let fits_cross : SFits w128 c.cross-cross.result = search rules in
     let fits_sum : SFits w128 c.sum-area2.result = search rules in
     let sum = simp to_z-of_z at c.sum-area2.ensures in
     simp to_z-of_z (traced_more linked c.args.start (within_as linked c.args.start c.requires) c.loop-points.invariant
-    c.index-halves-at.result c.index-halves-at-in-loop-points.result c.index-halves-at.is c.index-halves-at-in-loop-points.is
-    c.index-at.result.now c.index-at.ensures c.origin.result c.origin.ensures c.cross.result c.cross.ensures.value
-    c.cross.ensures.small c.push.new.self.items c.in_ok-push.ensures.items c.sum-area2.result sum c.if-at-start.false)
+    c.index-halves-at.result c.index-halves-at.is
+    c.index-at.result.now c.index-at.ensures c.origin.result c.origin.ensures c.cross-cross.result c.cross-cross.ensures.value
+    c.cross-cross.ensures.small c.push.new.self.items c.in_ok-push.ensures.items c.sum-area2.result sum c.if-at-start.false)
 
 pub returns-clause-value : goal.returns-clause-value
 returns-clause-value c = λ h e.
     let linked = linked_as _ _ _ _ _ c.self.view_is c.as_slice-halves.ensures.keys c.self.invariant in
     let first = within_as linked c.args.start c.requires in
-    let fits_cross : SFits w128 c.cross.result = search rules in
+    let fits_cross : SFits w128 c.cross-cross.result = search rules in
     let fits_sum : SFits w128 c.sum-area2.result = search rules in
     let sum = simp to_z-of_z at c.sum-area2.ensures in
     let whole =
     traced_whole linked c.args.start first c.loop-points.invariant
-    c.index-halves-at.result c.index-halves-at-in-loop-points.result c.index-halves-at.is c.index-halves-at-in-loop-points.is
-    c.index-at.result.now c.index-at.ensures c.origin.result c.origin.ensures c.cross.result c.cross.ensures.value
-    c.cross.ensures.small c.push.new.self.items c.in_ok-push.ensures.items c.sum-area2.result sum c.if-at-start.true in
+    c.index-halves-at.result c.index-halves-at.is
+    c.index-at.result.now c.index-at.ensures c.origin.result c.origin.ensures c.cross-cross.result c.cross-cross.ensures.value
+    c.cross-cross.ensures.small c.push.new.self.items c.in_ok-push.ensures.items c.sum-area2.result sum c.if-at-start.true in
     simp to_z-of_z (contour_whole linked c.args.start first c.push.new.self.items c.sum-area2.result whole h e)
