@@ -3,9 +3,9 @@
 -- (d x f) le = (e x f) ld + (d x e) lf: for the first half `m x + y` of each, where m is above the
 -- sizes of all three y, and for the second half its negation. So the signs of d x e and of e x f give
 -- that of d x f.
-use Rattle.std.proofs.Common.{◌≡◌, refl, sym, ap, subst, ◌∙◌, ℕ, zero, suc, ◌+◌, ◌<◌, ◌≤◌, arith, ◌⊎◌, inl, inr, [], ◌∷◌}
+use Rattle.std.proofs.Common.{◌≡◌, refl, sym, ap, ◌∙◌, ℕ, zero, suc, ◌+◌, ◌<◌, ◌≤◌, arith, ◌⊎◌, inl, inr, [], ◌∷◌}
 use Rattle.std.proofs.Common.{Ordering, Less, Equal, Greater, int_cmp, nat_cmp}
-use Rattle.std.specs.Prelude.{ℤ, pos, negsuc, neg_ℤ, ◌+ℤ◌, ◌-ℤ◌, ◌*ℤ◌, ◌<ℤ◌, ◌≤ℤ◌, unsigned_abs}
+use Rattle.std.specs.Prelude.{ℤ, pos, negsuc, neg_ℤ, ◌+ℤ◌, ◌*ℤ◌, ◌<ℤ◌, ◌≤ℤ◌, unsigned_abs}
 use Rattle.std.specs.Cmp.{IsTotalOrder, int_cmp_is}
 use Rattle.std.specs.Ordering.{ordering_then, ordering_reverse, MatchOrdering}
 use Rattle.std.proofs.lemmas.Int.{ints}
@@ -20,7 +20,7 @@ use Rattle.grid_core.proofs.Identities.{cross-turned}
 use Rattle.grid_core.proofs.Order.{point_total, point_exact}
 use Rattle.face_trace.specs.HalfEdge.{spoke_cmp}
 use Rattle.grid_core.proofs.Ring.{int_mul_pos, int_mul_neg_pos, int_mul-le_left, int_lt_of_mul, int_same_of_mul, int_neg-mul, int_mul_comm}
-use Rattle.grid_core.proofs.Polynomial.{V, K, ◌⊕◌, ◌⊖◌, ◌⊗◌, same_polynomial}
+use Rattle.grid_core.proofs.Polynomial.{V, ◌⊕◌, ◌⊖◌, ◌⊗◌, same_polynomial}
 
 -- ---- halves
 

@@ -1,5 +1,5 @@
 -- What is built is linked: the half-edges are those of the edges, and the spokes tell each its next.
-use Rattle.std.proofs.Common.{◌≡◌, refl, sym, ap, subst, ◌∙◌, ℕ, ◌<◌, ◌^◌, arith, cond}
+use Rattle.std.proofs.Common.{◌≡◌, refl, sym, ap, subst, ◌∙◌, ℕ, ◌<◌, ◌^◌, cond}
 use Rattle.std.proofs.Common.{Bool, List, [], ◌∷◌, length, map, filter, get_or, Some, Less, is_lt}
 use Rattle.std.specs.Prelude.{All, slice_get}
 use Rattle.std.specs.List.Sorted.{IsStrictlySortedBy}
@@ -8,7 +8,7 @@ use Rattle.std.proofs.lemmas.List.Elements.{All-nil, All-cons, All-head, All-tai
 use Rattle.std.proofs.lemmas.Option.{slice_get_within}
 use Rattle.grid_core.specs.Vector.{IsWithin, point_cmp}
 use Rattle.grid_core.specs.Edge.{EdgeEnds, IsEdge, edge_cmp}
-use Rattle.grid_core.specs.Contours.{HalfEdge, half_edges, next}
+use Rattle.grid_core.specs.Contours.{HalfEdge, half_edges}
 use Rattle.grid_core.proofs.Order.{point_total}
 use Rattle.face_trace.specs.declared.spokes.Spoke.{Spoke}
 use Rattle.face_trace.specs.HalfEdge.{IsWithinReach, twin_number}

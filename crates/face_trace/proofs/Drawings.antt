@@ -1,10 +1,7 @@
 -- Edges make a drawing exactly where each is in its place.
-use Rattle.std.proofs.Common.{◌≡◌, ◌∙◌, ap, ℕ, ◌+◌, ◌-◌, ◌<◌, arith, List, length, get_or, Less}
+use Rattle.std.proofs.Common.{◌≡◌, ◌∙◌, ap, ℕ, ◌+◌, ◌-◌, ◌<◌, arith, List, length, get_or}
 use Rattle.std.specs.Prelude.{pos}
-use Rattle.std.proofs.lemmas.List.Elements.{All-get_or, All-from_get_or}
-use Rattle.std.proofs.lemmas.List.{get_or_default}
 use Rattle.std.proofs.lemmas.Map.Keys.{Less-from_sorted, sorted_from_all_adjacent}
-use Rattle.grid_core.specs.Vector.{IsWithin}
 use Rattle.grid_core.specs.Edge.{EdgeEnds, edge_cmp}
 use Rattle.grid_core.proofs.Order.{edge_total}
 use Rattle.face_trace.specs.Links.{AreEdgesInOrder, IsPlaced}

@@ -1,9 +1,9 @@
 -- The half-edges of edges that rise: no two are one, and the twin of each stands beside it.
 -- An edge's two half-edges run in opposite orders, so they differ from each other, and from those of
 -- another edge as the edges differ.
-use Rattle.std.proofs.Common.{◌≡◌, ◌≢◌, refl, sym, ap, subst, ◌∙◌, ℕ, zero, suc, ◌+◌, ◌-◌, ◌*◌, ◌<◌, ◌%◌, arith}
+use Rattle.std.proofs.Common.{◌≡◌, ◌≢◌, refl, sym, ap, subst, ◌∙◌, ℕ, zero, suc, ◌+◌, ◌-◌, ◌<◌, ◌%◌, arith}
 use Rattle.std.proofs.Common.{Bool, true, false, ◌&&◌, if◌then◌else◌, append_assoc, true≢false, List, [], ◌∷◌, ◌++◌, length, length-append, take, get_or}
-use Rattle.std.proofs.Common.{Some, None, Ordering, Less, Equal, Greater, is_eq, Contains}
+use Rattle.std.proofs.Common.{Ordering, Less, Equal, Greater, is_eq, Contains}
 use Rattle.std.specs.Prelude.{slice_get, option_map, All}
 use Rattle.std.specs.Bool.{Decides}
 use Rattle.std.specs.Cmp.{IsTotalOrder, Equal-is}
@@ -19,7 +19,7 @@ use Rattle.std.proofs.lemmas.Bool.Decides.{Decides-int_eq}
 use Rattle.std.proofs.lemmas.List.{get_or_append_left, get_or_at, take_more}
 use Rattle.std.proofs.lemmas.List.Concat.{flat_map-append}
 use Rattle.std.proofs.lemmas.List.Elements.{All-head, All-tail, All-push}
-use Rattle.std.proofs.lemmas.Map.Keys.{sorted_head, sorted_tail, IsDistinct-cons, apart_from_distinct}
+use Rattle.std.proofs.lemmas.Map.Keys.{sorted_head, sorted_tail, apart_from_distinct}
 use Rattle.std.proofs.lemmas.Map.Lookups.{CmpEqualImpliesEq}
 use Rattle.std.proofs.lemmas.Map.Views.{Contains-from_any}
 use Rattle.grid_core.specs.declared.point.Point.{Point}

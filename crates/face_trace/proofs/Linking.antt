@@ -1,15 +1,14 @@
 -- From the spokes, clockwise around their starts, to the next of each half-edge.
 -- The spoke behind another of its start, or the first where there is none, ends in the neighbour that
 -- follows: what lies between two points around a start lies between their spokes.
-use Rattle.std.proofs.Common.{◌≡◌, ◌≢◌, refl, sym, ap, subst, ◌∙◌, ℕ, zero, suc, ◌+◌, ◌-◌, ◌<◌, ◌≤◌, arith, ◌⊎◌, inl, inr, ⊎_elim}
-use Rattle.std.proofs.Common.{Bool, true, false, List, [], ◌∷◌, ◌++◌, length, map, get_or, set, Contains}
-use Rattle.std.proofs.Common.{Some, None, Ordering, Less, Equal, Greater}
-use Rattle.std.specs.Prelude.{slice_get, slice_index, option_map, All, Any}
-use Rattle.std.specs.List.Sorted.{IsStrictlySortedBy}
-use Rattle.std.specs.Ordering.{ordering_then, ordering_reverse}
-use Rattle.std.proofs.lemmas.Cmp.{tied_itself, alike_right}
-use Rattle.std.proofs.lemmas.List.{get_or-map, length-map, get_or_default, get_or-set_same, get_or-set_other, length-set}
-use Rattle.std.proofs.lemmas.List.Elements.{All-get_or, Contains-get_or}
+use Rattle.std.proofs.Common.{◌≡◌, refl, sym, ap, subst, ◌∙◌, ℕ, ◌+◌, ◌-◌, ◌<◌, arith, ◌⊎◌, inl, inr}
+use Rattle.std.proofs.Common.{List, length, get_or, Contains}
+use Rattle.std.proofs.Common.{Some, Ordering, Less, Equal, Greater}
+use Rattle.std.specs.Prelude.{slice_get, slice_index, option_map}
+use Rattle.std.specs.Ordering.{ordering_then}
+use Rattle.std.proofs.lemmas.Cmp.{tied_itself}
+use Rattle.std.proofs.lemmas.List.{get_or-map, length-map, get_or_default}
+use Rattle.std.proofs.lemmas.List.Elements.{All-get_or}
 use Rattle.std.proofs.lemmas.Map.Keys.{Less-from_sorted}
 use Rattle.std.proofs.lemmas.Option.{slice_get-get_or, get_or_from_slice_get, slice_get_within, same_Some}
 use Rattle.grid_core.specs.declared.point.Point.{Point}
@@ -20,7 +19,7 @@ use Rattle.grid_core.proofs.Order.{point_total, point_exact}
 use Rattle.face_trace.specs.declared.spokes.Spoke.{Spoke}
 use Rattle.face_trace.specs.HalfEdge.{spoke_cmp, twin_number}
 use Rattle.face_trace.specs.Spokes.{AreSpokes, halves_of, IsLast, IsFirst, Follows, IsEntry, AreNexts}
-use Rattle.face_trace.proofs.AroundOrder.{spoke_total, around_total}
+use Rattle.face_trace.proofs.AroundOrder.{spoke_total}
 use Rattle.face_trace.proofs.HalfEdgeLists.{twin_at, twin_within, twin_twice}
 use Rattle.face_trace.proofs.NextAround.{to_half_edge, from_half_edge, next_is_after, next_is_first, earlier}
 

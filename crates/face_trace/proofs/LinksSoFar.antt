@@ -1,12 +1,11 @@
 -- The links as they are written, spoke after spoke. An entry that is written again is still that of some
 -- spoke's twin, so what was written before needs no care.
-use Rattle.std.proofs.Common.{◌≡◌, ◌≢◌, refl, sym, ap, subst, ◌∙◌, ℕ, ◌+◌, ◌-◌, ◌<◌, ◌≤◌, arith, ◌⊎◌, inl, inr, ⊎_elim}
+use Rattle.std.proofs.Common.{◌≡◌, ◌≢◌, refl, sym, ap, subst, ◌∙◌, ℕ, ◌+◌, ◌-◌, ◌<◌, arith, ◌⊎◌, inl, inr, ⊎_elim}
 use Rattle.std.proofs.Common.{List, length, get_or, set}
-use Rattle.std.specs.Prelude.{slice_index}
 use Rattle.std.proofs.lemmas.List.{get_or-set_same, get_or-set_other, get_or_default, length-set}
 use Rattle.face_trace.specs.declared.spokes.Spoke.{Spoke}
 use Rattle.face_trace.specs.HalfEdge.{twin_number}
-use Rattle.face_trace.specs.Spokes.{IsLast, IsFirst, IsRun, Follows, IsEntry, AreNexts}
+use Rattle.face_trace.specs.Spokes.{IsLast, IsRun, Follows, IsEntry}
 
 -- the entries of the twins of the first i spokes are written
 pub record LinkedSoFar (ss : List Spoke) (nexts : List ℕ) (first i : ℕ) : Type 0 where

@@ -1,10 +1,10 @@
 -- The neighbour that follows another around a vertex. In the list of neighbours it is the next one, or
 -- the first where there is no next. So no two neighbours have one that follows both, and a half-edge's
 -- next is one to one on the half-edges.
-use Rattle.std.proofs.Common.{◌≡◌, refl, sym, ap, subst, ◌∙◌, ℕ, zero, suc, ◌+◌, ◌<◌, ◌≤◌, arith, ◌⊎◌, inl, inr, ⊎_elim}
-use Rattle.std.proofs.Common.{Bool, true, false, cond, ◌↔◌, List, [], ◌∷◌, ◌++◌, length, drop, map, filter, get_or}
-use Rattle.std.proofs.Common.{Option, Some, None, Ordering, Less, Equal, Greater, is_lt, Contains}
-use Rattle.std.specs.Prelude.{slice_get, unwrap_or, option_map, Any}
+use Rattle.std.proofs.Common.{◌≡◌, refl, sym, ap, subst, ◌∙◌, ℕ, zero, suc, ◌<◌, ◌≤◌, arith, ◌⊎◌, inl, inr}
+use Rattle.std.proofs.Common.{cond, List, [], ◌∷◌, ◌++◌, length, drop, filter, get_or}
+use Rattle.std.proofs.Common.{Some, Ordering, Less, Greater, is_lt, Contains}
+use Rattle.std.specs.Prelude.{slice_get, unwrap_or, option_map}
 use Rattle.std.specs.Cmp.{IsTotalOrder}
 use Rattle.std.specs.List.{AllByRecursion}
 use Rattle.std.specs.List.Sorted.{IsStrictlySortedBy}
@@ -13,13 +13,12 @@ use Rattle.std.proofs.lemmas.Cmp.{tied_itself}
 use Rattle.std.proofs.lemmas.List.{drop_more, drop_all, get_or_default}
 use Rattle.std.proofs.lemmas.List.Elements.{Contains-get_or}
 use Rattle.std.proofs.lemmas.Map.Keys.{Less-from_sorted, sorted_head, sorted_tail}
-use Rattle.std.proofs.lemmas.Option.{slice_get-get_or, get_or_from_slice_get, slice_get_within, same_Some}
+use Rattle.std.proofs.lemmas.Option.{slice_get-get_or, get_or_from_slice_get}
 use Rattle.grid_core.specs.declared.point.Point.{Point}
-use Rattle.grid_core.specs.Vector.{point_cmp, point_eq}
+use Rattle.grid_core.specs.Vector.{point_eq}
 use Rattle.grid_core.specs.Edge.{EdgeEnds}
 use Rattle.grid_core.specs.Contours.{HalfEdge, half_edges, twin, neighbours, around_cmp, around, next_around, next}
 use Rattle.grid_core.proofs.Comparisons.{point_decides}
-use Rattle.grid_core.proofs.Filters.{every_kept}
 use Rattle.grid_core.proofs.ListMembers.{contains_filter, contains_map}
 use Rattle.grid_core.proofs.RisingMembers.{contains_rising, sorted_rising}
 use Rattle.grid_core.proofs.SortedLists.{not_both, not_itself}

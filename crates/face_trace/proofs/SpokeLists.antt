@@ -1,20 +1,18 @@
 -- The spokes as they are gathered and sorted: all half-edges with their numbers, and after the sort
 -- clockwise around their starts, since no two half-edges are one.
-use Rattle.std.proofs.Common.{◌≡◌, refl, sym, ap, subst, ◌∙◌, ℕ, ◌+◌, ◌<◌, ◌≤◌, arith, ◌⊎◌, inl, inr, ⊎_elim}
-use Rattle.std.proofs.Common.{Bool, true, false, true≢false, List, [], ◌∷◌, ◌++◌, length, take, map, get_or}
+use Rattle.std.proofs.Common.{◌≡◌, refl, sym, ap, subst, ◌∙◌, ℕ, ◌+◌, ◌<◌, ◌≤◌, arith, ◌⊎◌, ⊎_elim}
+use Rattle.std.proofs.Common.{false, true≢false, List, [], ◌∷◌, ◌++◌, length, take, get_or}
 use Rattle.std.proofs.Common.{Some, Ordering, Less, Equal, Greater, is_lt, Contains}
 use Rattle.std.specs.Prelude.{pos, slice_get, All, Any}
-use Rattle.std.specs.Bool.{Decides}
 use Rattle.std.specs.List.{IsDistinct}
-use Rattle.std.specs.List.Sorted.{IsPermutation, IsSortedBy, IsStrictlySortedBy}
+use Rattle.std.specs.List.Sorted.{IsPermutation, IsSortedBy}
 use Rattle.std.specs.Ordering.{ordering_reverse}
-use Rattle.std.proofs.lemmas.List.{map_push, take_more, take_all, length_push, get_or-map, length-map}
+use Rattle.std.proofs.lemmas.List.{map_push, take_more, take_all, get_or-map, length-map}
 use Rattle.std.proofs.lemmas.List.Elements.{All-push, Contains-append_left, Contains-push}
 use Rattle.std.proofs.lemmas.List.Sorted.{All-permutation, Contains-permutation, IsPermutation-map, length_permutation}
 use Rattle.std.proofs.lemmas.Map.Keys.{IsDistinct-IsPermutation, apart_from_distinct, sorted_from_all_adjacent}
 use Rattle.std.proofs.lemmas.Option.{slice_get-get_or}
 use Rattle.std.proofs.lemmas.Cmp.{eq_by_cmp_equiv}
-use Rattle.grid_core.specs.declared.point.Point.{Point}
 use Rattle.grid_core.specs.Contours.{HalfEdge, half_edge_eq}
 use Rattle.face_trace.specs.declared.spokes.Spoke.{Spoke}
 use Rattle.face_trace.specs.HalfEdge.{spoke_cmp}

@@ -2,19 +2,19 @@
 -- drawing; if the walk weren't back after as many steps as there are half-edges, all of them would differ,
 -- since two that are one come from one, step by step back to the first; but there are one more than
 -- half-edges.
-use Rattle.std.proofs.Common.{◌≡◌, ◌≢◌, refl, sym, ap, subst, ◌∙◌, ℕ, zero, suc, ◌+◌, ◌-◌, ◌<◌, ◌≤◌, arith, ◌⊎◌, inl, inr, ⊎_elim}
-use Rattle.std.proofs.Common.{Bool, true, false, not, true≢false, List, [], ◌∷◌, ◌++◌, length, take, get_or, Contains}
+use Rattle.std.proofs.Common.{◌≡◌, ◌≢◌, refl, sym, ap, subst, ◌∙◌, ℕ, zero, suc, ◌+◌, ◌-◌, ◌<◌, ◌≤◌, arith}
+use Rattle.std.proofs.Common.{Bool, true, false, not, true≢false, List, length, get_or, Contains}
 use Rattle.std.specs.List.{IsDistinct, list_any, prefix_len}
 use Rattle.std.proofs.lemmas.Cmp.{eq_by_cmp_equiv}
 use Rattle.std.proofs.lemmas.Bool.{false_from_ne_true}
-use Rattle.std.proofs.lemmas.List.{length-take-le, get_or-take, take_all}
+use Rattle.std.proofs.lemmas.List.{length-take-le, get_or-take}
 use Rattle.std.proofs.lemmas.List.Sums.{prefix_len-le-length, prefix_len_passes, prefix_len_stops}
 use Rattle.std.proofs.lemmas.Map.Keys.{IsDistinct-from_apart}
 use Rattle.std.proofs.lemmas.Map.Made.{length-le_from_is_member}
 use Rattle.std.proofs.lemmas.Map.Views.{Contains-from_any, list_any-from_Contains}
 use Rattle.grid_core.specs.Edge.{EdgeEnds}
 use Rattle.grid_core.specs.Contours.{HalfEdge, half_edges, half_edge_eq, next, steps_after, walk}
-use Rattle.std.specs.Prelude.{slice_get, option_map, Some}
+use Rattle.std.specs.Prelude.{option_map, Some}
 use Rattle.std.proofs.lemmas.Option.{slice_get-get_or}
 use Rattle.face_trace.specs.Laws.{ComesBack}
 use Rattle.face_trace.proofs.HalfEdgeLists.{half_decides, half_total}

@@ -10,8 +10,8 @@ NextIsOneToOne es = (g h : HalfEdge) → Contains (half_edges es) g → Contains
     → next es g ≡ next es h
     → g ≡ h
 
--- the walk from h begins with h, goes from each half-edge to its next, has each once, and h comes after
--- the last
+-- the walk from h begins with h, goes from each half-edge to its next, has each once, and h comes
+-- after the last
 pub record ComesBack (es : List EdgeEnds) (h : HalfEdge) : Type 0 where
   pub begins : slice_get (walk es h) 0 ≡ Some h
   pub goes_on : (k : ℕ) → k + 1 < length (walk es h)

@@ -27,10 +27,12 @@ pub record AreEdgesInOrder (es : List EdgeEnds) : Type 0 where
 pub record IsPlaced (es : List EdgeEnds) (i : ℕ) : Type 0 where
   pub start_within : (d : EdgeEnds) → IsWithin (2 ^ 30) (slice_index_or es i d).a
   pub end_within : (d : EdgeEnds) → IsWithin (2 ^ 30) (slice_index_or es i d).b
-  pub after : 0 < i → (d : EdgeEnds) → edge_cmp (slice_index_or es (i - 1) d) (slice_index_or es i d) ≡ Less
+  pub after : 0 < i
+      → (d : EdgeEnds)
+      → edge_cmp (slice_index_or es (i - 1) d) (slice_index_or es i d) ≡ Less
 
--- the edges rise and lie within 2 ^ 30, their half-edges are numbered in their order, and the link of each
--- leads to its next
+-- the edges rise and lie within 2 ^ 30, their half-edges are numbered in their order, and the link of
+-- each leads to its next
 pub record AreLinked (es : List EdgeEnds) (hs : List HalfEdge) (nexts : List ℕ) : Type 0 where
   pub edges : All IsEdge es
   pub rising : IsStrictlySortedBy edge_cmp es

@@ -2,7 +2,6 @@
 use Rattle.std.specs.Prelude.{◌≡◌, ◌≢◌, ℕ, ◌+◌, ◌-◌, ◌<◌, ◌≤◌, ◌⊎◌, Some, List, length, map, slice_get}
 use Rattle.std.specs.Prelude.{slice_index, slice_index_or, All, Any}
 use Rattle.std.specs.List.Sorted.{IsStrictlySortedBy}
-use Rattle.grid_core.specs.declared.point.Point.{Point}
 use Rattle.grid_core.specs.Contours.{HalfEdge}
 use Rattle.face_trace.specs.declared.spokes.Spoke.{Spoke}
 use Rattle.face_trace.specs.HalfEdge.{spoke_cmp, twin_number}
@@ -33,14 +32,16 @@ pub record IsRun (ss : List Spoke) (f i : ℕ) : Type 0 where
   pub below : f ≤ i - 1
   pub first : IsFirst ss f
   pub one_start : 0 < i
-      → (d : Spoke) → (slice_index_or ss f d).half.origin ≡ (slice_index_or ss (i - 1) d).half.origin
+      → (d : Spoke)
+      → (slice_index_or ss f d).half.origin ≡ (slice_index_or ss (i - 1) d).half.origin
 
 -- the spoke at q follows the one at p around their start: it is the next one, or the first of that
 -- start where the other is its last
 pub record Follows (ss : List Spoke) (p q : ℕ) : Type 0 where
   pub first_within : p < length ss
   pub second_within : q < length ss
-  pub one_start : (d : Spoke) → (slice_index_or ss p d).half.origin ≡ (slice_index_or ss q d).half.origin
+  pub one_start : (d : Spoke)
+      → (slice_index_or ss p d).half.origin ≡ (slice_index_or ss q d).half.origin
   pub follows : (q ≡ p + 1) ⊎ (IsLast ss p × IsFirst ss q)
 
 -- entry k is of the twin of some spoke, and leads to the one that follows that spoke

@@ -33,7 +33,8 @@ impl Model for HalfEdge {
 }
 
 impl Hash for HalfEdge {
-    ghost hash_input = { λ h. (fed.i64 h.origin.x ++ fed.i64 h.origin.y) ++ (fed.i64 h.target.x ++ fed.i64 h.target.y) };
+    ghost hash_input = { λ h. (fed.i64 h.origin.x ++ fed.i64 h.origin.y)
+        ++ (fed.i64 h.target.x ++ fed.i64 h.target.y) };
 
     ghost respects_eq = { Prim.search (hashing, rules) };
 

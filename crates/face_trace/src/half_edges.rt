@@ -5,7 +5,8 @@ ghost use Rattle.std.specs.Prelude.{length, All, IfOk, IfSome, IsTrue};
 ghost use Rattle.grid_core.specs.Vector.{IsWithin};
 ghost use Rattle.grid_core.specs.Edge.{IsEdge};
 ghost use Rattle.grid_core.specs.Contours.{contour_of, half_edges};
-ghost use Rattle.face_trace.specs.Links.{AreEdgesInOrder, IsPlaced, IsNumberOf, IsLesser, IsLeastFrom, IsContourFrom};
+ghost use Rattle.face_trace.specs.Links.{AreEdgesInOrder, IsPlaced};
+ghost use Rattle.face_trace.specs.Links.{IsNumberOf, IsLesser, IsLeastFrom, IsContourFrom};
 
 use crate::contour::Contour;
 use crate::half_edge::HalfEdge;
@@ -18,7 +19,9 @@ use std::marker::Model;
 /// The half-edges of the edges of a drawing, each with its next.
 #[derive(Drop)]
 pub struct HalfEdges {
+    /// By number: those of edge i have the numbers 2 i and 2 i + 1.
     halves: IndexSet<HalfEdge>,
+    /// For each number that of the half-edge's next.
     nexts: Vec<usize>,
 }
 
@@ -59,11 +62,12 @@ impl HalfEdges {
         Ok(HalfEdges { halves, nexts })
     }
 
-    /// The contour that has the half-edge from `from` to `to`. `None` where the two points aren't the
-    /// ends of an edge.
+    /// The contour that has the half-edge from `from` to `to`. `None` where the two points aren't
+    /// the ends of an edge.
     pub fn contour(&self, from: Point, to: Point) -> Result<Option<Contour>, Memory>
         ensures value { IfOk result (λ c. c ≡ contour_of self.now from to) }
-        ensures small { IfOk result (λ c. IfSome c (λ w. unsigned_abs w.area2 ≤ 2 ^ 61 * length w.points)) }
+        ensures small { IfOk result (λ c. IfSome c
+            (λ w. unsigned_abs w.area2 ≤ 2 ^ 61 * length w.points)) }
     {
         match self.number_of(from, to) {
             None => Ok(None),

@@ -10,8 +10,8 @@ pub fn next_is_one_to_one(edges: &[Edge])
     ensures { NextIsOneToOne edges.now }
 {}
 
-/// The walk from each half-edge goes from next to next, has each half-edge once, and comes back to the
-/// one that it began with.
+/// The walk from each half-edge goes from next to next, has each half-edge once, and comes back to
+/// the one that it began with.
 pub fn walks_come_back(edges: &[Edge])
     ensures { WalksComeBack edges.now }
 {}

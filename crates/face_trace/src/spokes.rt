@@ -33,8 +33,8 @@ pub(crate) fn spokes_of(alloc: Global, halves: &[HalfEdge]) -> Result<Vec<Spoke>
     Ok(spokes)
 }
 
-/// The number of each half-edge's next: a walk that comes in along the twin of a spoke goes out along the
-/// spoke that follows it.
+/// The number of each half-edge's next: a walk that comes in along the twin of a spoke goes out
+/// along the spoke that follows it.
 pub(crate) fn nexts_of(alloc: Global, spokes: &[Spoke]) -> Result<Vec<usize>, Memory>
     requires { All (λ s. twin_number s.number < length spokes.now) spokes.now }
     ensures { IfOk result (λ n. AreNexts spokes.now n.items) }
@@ -86,7 +86,7 @@ fn have_one_start(s: &Spoke, t: &Spoke) -> bool
     s.half.origin() == t.half.origin()
 }
 
-/// The number of a half-edge's twin: the two half-edges of an edge have the numbers 2 i and 2 i + 1.
+/// The number of a half-edge's twin: the half-edges of an edge have the numbers 2 i and 2 i + 1.
 #[inline(always)]
 fn twin(number: usize) -> usize
     ensures { result ≡ twin_number number }

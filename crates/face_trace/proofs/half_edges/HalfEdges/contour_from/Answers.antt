@@ -1,7 +1,6 @@
-use Rattle.std.proofs.Common.{◌≡◌, ◌∙◌, ap, sym, subst, rules, length, SFits, to_z-of_z}
-use Rattle.std.specs.Prelude.{pos, ◌+ℤ◌}
+use Rattle.std.proofs.Common.{sym, subst, rules, SFits, to_z-of_z}
+use Rattle.std.specs.Prelude.{pos}
 use mir.Syntax.{w128}
-use Rattle.face_trace.specs.Links.{AreLinked}
 use Rattle.face_trace.proofs.Tracing.{IsTraced, linked_as, within_as, trace_begun, traced_more, traced_whole, contour_whole}
 use Rattle.face_trace.proofs.half_edges.HalfEdges.contour_from.Goals as goal
 
