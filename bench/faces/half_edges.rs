@@ -1,8 +1,36 @@
 //! The half-edges of `face_trace` in plain Rust, numbered by a hash map from pairs of points, with the same
-//! sort and the same walks: it takes the words of `bench_faces`, and prints the same counts.
+//! sort and the same walks: it takes the words of `bench_faces`, and prints the same counts. The map hashes as
+//! std does; with the word `quick` more, by one multiplication a coordinate.
 
 use std::cmp::Ordering;
 use std::collections::HashMap;
+use std::hash::{BuildHasher, BuildHasherDefault, Hasher, RandomState};
+
+#[derive(Default)]
+struct Quick {
+    state: u64,
+}
+
+impl Hasher for Quick {
+    fn write(&mut self, bytes: &[u8]) {
+        for byte in bytes {
+            self.write_u64(u64::from(*byte));
+        }
+    }
+
+    fn write_u64(&mut self, word: u64) {
+        let product = u128::from(self.state ^ word) * 0x9e37_79b9_7f4a_7c15;
+        self.state = product as u64 ^ (product >> 64) as u64;
+    }
+
+    fn write_i64(&mut self, word: i64) {
+        self.write_u64(word as u64);
+    }
+
+    fn finish(&self) -> u64 {
+        self.state
+    }
+}
 
 #[derive(Clone, Copy, PartialEq, Eq, PartialOrd, Ord, Hash)]
 struct Point {
@@ -40,8 +68,8 @@ fn around(g: &HalfEdge, h: &HalfEdge) -> Ordering {
     })
 }
 
-struct HalfEdges {
-    numbers: HashMap<HalfEdge, usize>,
+struct HalfEdges<S> {
+    numbers: HashMap<HalfEdge, usize, S>,
     halves: Vec<HalfEdge>,
     nexts: Vec<usize>,
 }
@@ -51,9 +79,9 @@ struct Contour {
     area2: i128,
 }
 
-impl HalfEdges {
-    fn build(edges: &[(Point, Point)]) -> HalfEdges {
-        let mut numbers = HashMap::with_capacity(2 * edges.len());
+impl<S: BuildHasher + Default> HalfEdges<S> {
+    fn build(edges: &[(Point, Point)]) -> HalfEdges<S> {
+        let mut numbers = HashMap::with_capacity_and_hasher(2 * edges.len(), S::default());
         let mut halves = Vec::with_capacity(2 * edges.len());
         for &(a, b) in edges {
             for half in [HalfEdge { origin: a, target: b }, HalfEdge { origin: b, target: a }] {
@@ -126,7 +154,7 @@ struct Counts {
     areas: u64,
 }
 
-fn count(half_edges: &HalfEdges, u: Point, v: Point, counts: &mut Counts) {
+fn count<S: BuildHasher + Default>(half_edges: &HalfEdges<S>, u: Point, v: Point, counts: &mut Counts) {
     if let Some(contour) = half_edges.contour(u, v) {
         counts.contours += u64::from(contour.points[0] == u && contour.points[1] == v);
         counts.areas += u64::from(contour.area2 > 0);
@@ -134,18 +162,16 @@ fn count(half_edges: &HalfEdges, u: Point, v: Point, counts: &mut Counts) {
     }
 }
 
-fn main() {
-    let words: Vec<String> = std::env::args().collect();
-    let rounds: u32 = words[1].parse().unwrap();
+fn run<S: BuildHasher + Default>(rounds: u32, work: &str) -> Counts {
     let edges = streets();
     let mut counts = Counts::default();
-    if words[2] == "build" {
+    if work == "build" {
         for _ in 0..rounds {
-            let half_edges = HalfEdges::build(&edges);
+            let half_edges = HalfEdges::<S>::build(&edges);
             count(&half_edges, edges[0].0, edges[0].1, &mut counts);
         }
     } else {
-        let half_edges = HalfEdges::build(&edges);
+        let half_edges = HalfEdges::<S>::build(&edges);
         for _ in 0..rounds {
             for &(a, b) in &edges {
                 count(&half_edges, a, b, &mut counts);
@@ -153,5 +179,16 @@ fn main() {
             }
         }
     }
+    counts
+}
+
+fn main() {
+    let words: Vec<String> = std::env::args().collect();
+    let rounds: u32 = words[1].parse().unwrap();
+    let counts = if words.get(3).is_some_and(|form| form == "quick") {
+        run::<BuildHasherDefault<Quick>>(rounds, &words[2])
+    } else {
+        run::<RandomState>(rounds, &words[2])
+    };
     println!("contours {} points {} areas {}", counts.contours, counts.points, counts.areas);
 }

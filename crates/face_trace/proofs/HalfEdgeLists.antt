@@ -259,11 +259,6 @@ twin_twice zero = refl
 twin_twice (suc zero) = refl
 twin_twice (suc (suc n)) = ap (λ m. suc (suc m)) (twin_twice n)
 
--- each edge has two half-edges
-pub count_half_edges : (es : List EdgeEnds) → length (half_edges es) ≡ length es + length es
-count_half_edges [] = refl
-count_half_edges (e ∷ es) = let rest = count_half_edges es in omega (arith, rest)
-
 -- a half-edge's twin has a number, as the half-edge has
 pub twin_within : (es : List EdgeEnds) (n : ℕ) → n < length (half_edges es) → twin_number n < length (half_edges es)
 unfolding twin_number

@@ -4,6 +4,7 @@ pub mod Drawings
 pub mod HalfEdgeLists
 pub mod Linking
 pub mod LinksSoFar
+pub mod LookUps
 pub mod NextAround
 pub mod SpokeLists
 pub mod Tracing

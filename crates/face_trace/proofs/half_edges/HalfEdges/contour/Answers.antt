@@ -1,6 +1,6 @@
 use Rattle.std.proofs.lemmas.Option.{slice_get_within}
 use Rattle.grid_core.specs.Contours.{HalfEdge, half_edges}
-use Rattle.face_trace.proofs.Tracing.{contour_found}
+use Rattle.face_trace.proofs.LookUps.{contour_found}
 use Rattle.face_trace.proofs.half_edges.HalfEdges.contour.Goals as goal
 
 pub contour_from-requires : goal.contour_from-requires

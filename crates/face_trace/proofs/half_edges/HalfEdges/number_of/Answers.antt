@@ -1,6 +1,7 @@
 use Rattle.std.proofs.Common.{refl}
 use Rattle.face_trace.proofs.HalfEdgeLists.{half_test}
-use Rattle.face_trace.proofs.Tracing.{linked_as, number_found, far_away}
+use Rattle.face_trace.proofs.Tracing.{linked_as}
+use Rattle.face_trace.proofs.LookUps.{number_found, far_away}
 use Rattle.face_trace.proofs.half_edges.HalfEdges.number_of.Goals as goal
 use Rattle.face_trace.proofs.half_edges.HalfEdges.number_of.Goals.{else-is_within-via-then-is_within+else-is_within-2, else-is_within-via-else-is_within}
 
