@@ -1,0 +1,3 @@
+pub mod Buffers
+mod DigitLaws
+mod FieldLaws
