@@ -192,3 +192,7 @@ pub none_left : (line : List ℕ) (from left start : ℕ)
     → fields_from line from ≡ []
 none_left line from left start opened skipped past =
     opened ∙ skipped ∙ ap fields_of (drop_all start line past) ∙ no_fields
+
+-- all fields of a line begin at or after its start
+pub all_fields : (line : List ℕ) → fields_from line 0 ≡ fields_of line
+all_fields line = fields_left line 0 refl

@@ -1,3 +1,3 @@
 pub mod Buffers
 mod DigitLaws
-mod FieldLaws
+pub mod FieldLaws

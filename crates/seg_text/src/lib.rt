@@ -21,5 +21,6 @@ mod text;
 pub use fields::next_field;
 pub use numbers::{editor, name, whole};
 pub use text::{
-    push_name, push_names, push_point, push_points, push_spaced_point, push_text, push_whole,
+    push_count, push_name, push_names, push_point, push_points, push_spaced_point, push_text,
+    push_whole,
 };

@@ -1,4 +1,5 @@
-//! Numbers, names and points as text, appended to a buffer.
+//! Numbers, names and points as text, appended to a buffer. Where a clause `memory` says that the
+//! buffer begins with what it had, a part of the text may stand behind that.
 
 ghost use Rattle.std.specs.Prelude.{◌≡◌, ◌++◌, OnOk, OnErr, decimal, flat_map};
 ghost use Rattle.std.specs.Fmt.{signed_decimal};
@@ -17,7 +18,7 @@ pub fn push_text(out: &mut Vec<u8>, text: &str) -> Result<(), Memory>
     Ok(())
 }
 
-/// A whole number. After `Memory` the buffer is as before.
+/// A whole number, in decimal, a negative one with a minus sign. After `Memory` the buffer is as before.
 #[inline]
 pub fn push_whole(out: &mut Vec<u8>, n: i128) -> Result<(), Memory>
     ensures text { OnOk result (out.new.items ≡ out.old.items ++ signed_decimal n) }
@@ -30,9 +31,9 @@ pub fn push_whole(out: &mut Vec<u8>, n: i128) -> Result<(), Memory>
     }
 }
 
-/// A count.
+/// A count, in decimal. After `Memory` the buffer is as before.
 #[inline]
-fn push_count(out: &mut Vec<u8>, count: u64) -> Result<(), Memory>
+pub fn push_count(out: &mut Vec<u8>, count: u64) -> Result<(), Memory>
     ensures text { OnOk result (out.new.items ≡ out.old.items ++ decimal count) }
     ensures memory { OnErr result (out.new.items ≡ out.old.items) }
 {
@@ -62,7 +63,7 @@ fn push_name_parts(out: &mut Vec<u8>, name: Name) -> Result<(), Memory>
     push_count(out, u64::from(name.serial()))
 }
 
-/// A point.
+/// A point, as `x y`.
 pub fn push_point(out: &mut Vec<u8>, at: Point) -> Result<(), Memory>
     ensures text { OnOk result (out.new.items ≡ out.old.items ++ point_text at) }
     ensures memory { OnErr result (BeginsWith out.new.items out.old.items) }

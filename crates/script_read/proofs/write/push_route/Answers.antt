@@ -1,0 +1,10 @@
+use Rattle.script_read.specs.Reply.{said_text}
+use Rattle.script_read.proofs.Appended.{in_three, fails_in_three}
+use Rattle.script_read.proofs.write.push_route.Goals as goal
+
+pub returns-clause-text : goal.returns-clause-text
+unfolding said_text
+returns-clause-text c = in_three _ _ _ _ _ _ _ _ c.in_ok-push_named.ensures.text c.in_ok-push_count.ensures.text c.push_points.ensures.text
+
+pub returns-clause-memory : goal.returns-clause-memory
+returns-clause-memory c = fails_in_three _ _ _ _ _ _ _ c.in_ok-push_named.ensures.text c.in_ok-push_count.ensures.text c.push_points.ensures.memory
