@@ -1,2 +1,2 @@
-mod Appended
-mod LineLaws
+pub mod Appended
+pub mod LineLaws

@@ -5,6 +5,8 @@ use Rattle.std.specs.List.{position_or_len, onto_first}
 use Rattle.std.proofs.lemmas.Option.{cond_some}
 use Rattle.std.proofs.lemmas.Bool.Decides.{nat_tests}
 use Rattle.std.proofs.lemmas.List.{take_rest, drop_all, drop-drop}
+use Rattle.std.proofs.lemmas.List.Sums.{position_or_len_is}
+use Rattle.memchr.specs.Find.{IsFirstByte, is_byte}
 use Rattle.script_read.specs.Lines.{lines_of}
 
 -- where the first line feed stands, or the length
@@ -97,3 +99,23 @@ pub last_line : (input : List ℕ) (from : ℕ)
 last_line input from some missed =
     let none : drop (length input) input ≡ [] = drop_all (length input) input (omega arith) in
     line_alone (drop from input) some (sym missed) ∙ rw (take_rest input from, none, no_lines)
+
+-- what isn't true is false
+not_true : (b : Bool) → ¬ (b ≡ true) → b ≡ false
+not_true true h = absurd (h refl)
+not_true false h = refl
+
+-- the first place whose byte is a line feed, as a position
+pub feed_position : (bs : List ℕ) (r : Option ℕ)
+    → IsFirstByte (is_byte 10) bs r
+    → r ≡ position (λ b. b == 10) bs
+feed_position bs None none =
+    let p : ℕ → Bool = λ b. b == 10 in
+    let len = position_or_len_is p bs (length bs) 0 (omega arith) (λ k within. not_true _ (none k (omega arith) within)) (λ within. absurd (omega arith)) in
+    let past : nat_lt (length bs) (length bs) ≡ false = grind (arith, nat_tests) in
+    rw (len, past)
+feed_position bs (Some i) found =
+    let p : ℕ → Bool = λ b. b == 10 in
+    let len = position_or_len_is p bs i 0 (omega (arith, found.0.high)) (λ k before. not_true _ (found.0.before k (omega arith) before)) (λ _. found.1) in
+    let within : nat_lt i (length bs) ≡ true = grind (arith, nat_tests, found.0.high) in
+    rw (len, within)

@@ -4,6 +4,8 @@ ghost use Rattle.std.specs.Prelude.{◌≡◌, ◌+◌, ◌-◌, ◌<◌, ◌≤
 ghost use Rattle.std.specs.Prelude.{slice_range, IsNone, IfSome};
 ghost use Rattle.script_read.specs.Lines.{lines_of, IsLineSpan};
 
+use memchr::memchr;
+
 /// The end of the line that begins at `from`, without its line feed, and the start of the next.
 /// `None` exactly where nothing is left. Takes no memory.
 pub fn next_line(input: &[u8], from: usize) -> Option<(usize, usize)>
@@ -26,5 +28,5 @@ pub fn next_line(input: &[u8], from: usize) -> Option<(usize, usize)>
 fn line_feed(bytes: &[u8]) -> Option<usize>
     ensures { result ≡ position (λ b. b == 10) bytes.now }
 {
-    bytes.iter().position(|b| *b == b'\n')
+    memchr(b'\n', bytes)
 }

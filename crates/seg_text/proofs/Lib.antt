@@ -1,3 +1,3 @@
 pub mod Buffers
-mod DigitLaws
+pub mod DigitLaws
 pub mod FieldLaws

@@ -4,7 +4,7 @@
 //! whole number, an editor or a name, or it is refused; numbers and names are written in one way alone.
 //!
 //! ```text
-//!    line            ..1.delete..12.0007     a dot is a space or a tab
+//!    line            __1_delete__12.0007     _ is a space or a tab
 //!    fields            1 delete  12.0007
 //!    as a number       1         none of the two
 //!    as a name                   editor 12, serial 7, written as 12.7

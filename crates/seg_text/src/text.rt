@@ -18,17 +18,34 @@ pub fn push_text(out: &mut Vec<u8>, text: &str) -> Result<(), Memory>
     Ok(())
 }
 
-/// A whole number, in decimal, a negative one with a minus sign. After `Memory` the buffer is as before.
-#[inline]
+/// A whole number, in decimal, a negative one with a minus sign. After `Memory` the buffer is as
+/// before.
+#[inline(always)]
 pub fn push_whole(out: &mut Vec<u8>, n: i128) -> Result<(), Memory>
     ensures text { OnOk result (out.new.items ≡ out.old.items ++ signed_decimal n) }
     ensures memory { OnErr result (out.new.items ≡ out.old.items) }
 {
-    let mut digits = Buffer::new();
+    // Nearly all numbers are shorter, and where the caller's are, the test goes.
     match i64::try_from(n) {
-        Ok(short) => push_text(out, digits.format(short)),
-        Err(_) => push_text(out, digits.format(n)),
+        Ok(short) => push_short(out, short),
+        Err(_) => push_long(out, n),
     }
+}
+
+fn push_short(out: &mut Vec<u8>, n: i64) -> Result<(), Memory>
+    ensures text { OnOk result (out.new.items ≡ out.old.items ++ signed_decimal n) }
+    ensures memory { OnErr result (out.new.items ≡ out.old.items) }
+{
+    let mut digits = Buffer::new();
+    push_text(out, digits.format(n))
+}
+
+fn push_long(out: &mut Vec<u8>, n: i128) -> Result<(), Memory>
+    ensures text { OnOk result (out.new.items ≡ out.old.items ++ signed_decimal n) }
+    ensures memory { OnErr result (out.new.items ≡ out.old.items) }
+{
+    let mut digits = Buffer::new();
+    push_text(out, digits.format(n))
 }
 
 /// A count, in decimal. After `Memory` the buffer is as before.
