@@ -3,28 +3,10 @@
 -- Numbers are in decimal without leading zeros, fields are separated by one space, and each line
 -- ends with a line feed.
 use Rattle.std.specs.Prelude.{ℕ, List, ◌++◌, length, flat_map, codes, decimal}
-use Rattle.std.specs.Fmt.{signed_decimal}
-use Rattle.grid_core.specs.declared.point.Point.{Point}
 use Rattle.grid_core.specs.declared.point.Vertex.{Vertex}
-use Rattle.grid_core.specs.Name.{Label}
 use Rattle.grid_core.specs.Segment.{Segment}
 use Rattle.grid_core.specs.Rounding.{RoutedSegment, BundledEdge, SnapRounding, rounding_of}
-
--- `f.k`: the editor and the serial
-unfoldable pub name_text : Label → List ℕ
-name_text name = decimal name.editor ++ codes "." ++ decimal name.serial
-
--- `x y`
-unfoldable pub point_text : Point → List ℕ
-point_text h = signed_decimal h.x ++ codes " " ++ signed_decimal h.y
-
--- a point behind a space
-unfoldable pub spaced_point : Point → List ℕ
-spaced_point h = codes " " ++ point_text h
-
--- a name behind a space
-unfoldable pub spaced_name : Label → List ℕ
-spaced_name name = codes " " ++ name_text name
+use Rattle.seg_text.specs.Text.{name_text, point_text, spaced_point, spaced_name}
 
 -- `f.k px py qx qy`
 unfoldable pub segment_text : Segment → List ℕ

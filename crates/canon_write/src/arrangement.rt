@@ -2,15 +2,15 @@
 //! appended.
 
 ghost use Rattle.std.specs.Prelude.{◌≡◌, ◌++◌, OnOk, IfOk, flat_map};
-ghost use Rattle.canon_write.specs.Text.{spaced_point, spaced_name, segment_text, segment_line};
+ghost use Rattle.canon_write.specs.Text.{segment_text, segment_line};
 ghost use Rattle.canon_write.specs.Text.{vertex_line, edge_line, segments_part, vertices_part};
 ghost use Rattle.canon_write.specs.Text.{edges_part, picture_text};
 
-use crate::pieces::{
-    push_count, push_name, push_point, push_spaced_name, push_spaced_point, push_text,
-};
-use grid_core::{Memory, Name, Point, Ur, Vertex};
+use grid_core::{Memory, Ur, Vertex};
 use round_plain::{Bundled, Rounding, Routed};
+use seg_text::{
+    push_count, push_name, push_names, push_point, push_points, push_spaced_point, push_text,
+};
 use std::alloc::Global;
 
 /// The text of version `number` with this rounding.
@@ -64,15 +64,6 @@ fn push_segment(out: &mut Vec<u8>, ur: &Ur) -> Result<(), Memory>
     push_name(out, ur.name())?;
     push_spaced_point(out, ur.p())?;
     push_spaced_point(out, ur.q())
-}
-
-fn push_points(out: &mut Vec<u8>, points: &[Point]) -> Result<(), Memory>
-    ensures { OnOk result (out.new.items ≡ out.old.items ++ flat_map spaced_point points.now) }
-{
-    for at in points {
-        push_spaced_point(out, *at)?;
-    }
-    Ok(())
 }
 
 /// How many vertices, then each with its counts.
@@ -134,13 +125,4 @@ fn push_edge_line(out: &mut Vec<u8>, bundled: &Bundled) -> Result<(), Memory>
     push_count(out, names.len() as u64)?;
     push_names(out, names)?;
     push_text(out, "\n")
-}
-
-fn push_names(out: &mut Vec<u8>, names: &[Name]) -> Result<(), Memory>
-    ensures { OnOk result (out.new.items ≡ out.old.items ++ flat_map spaced_name names.now) }
-{
-    for name in names {
-        push_spaced_name(out, *name)?;
-    }
-    Ok(())
 }

@@ -15,7 +15,6 @@
 #![tactic(auto)]
 
 mod arrangement;
-mod pieces;
 #[cfg(test)]
 mod tests;
 

@@ -1,8 +1,0 @@
-use Rattle.std.proofs.Common.{◌≡◌, ◌++◌, take}
-use Rattle.std.specs.Prelude.{flat_map}
-use Rattle.canon_write.specs.Text.{spaced_name}
-use Rattle.canon_write.proofs.arrangement.push_names.Given as goal
-
--- the lines of the items so far have been appended
-abbrev pub invariant-loop-name : goal.invariant-loop-name
-invariant-loop-name l = l.out.items ≡ l.fn.out.items ++ flat_map spaced_name (take l.name-index l.names)
