@@ -1,0 +1,9 @@
+pub mod Frame
+pub mod Rows
+pub mod Spots
+pub mod Listed
+pub mod Own
+pub mod Steps
+pub mod Tile
+pub mod Paths
+pub mod Drawn

@@ -1,0 +1,146 @@
+//! A tile with a segment more.
+
+ghost use Rattle.std.specs.Prelude.{◌≡◌, IfOk};
+
+use crate::listed::index_of;
+use crate::own::count_own;
+use crate::rows::Rows;
+use crate::spots::{Spot, merge};
+use crate::steps::{grow_row, make_row};
+use crate::tile::Drawn;
+use crate::{Scratch, Tile};
+use grid_core::{Memory, Ur};
+use std::alloc::Global;
+
+impl Tile {
+    ghost use Rattle.std.specs.Prelude.{◌≡◌, ◌<◌, ◌≤◌, ◌+◌, ◌-◌, ◌^◌, ◌++◌, IsTrue, Contains};
+    ghost use Rattle.std.specs.Prelude.{length, map, take, drop, IfOk, OnOk};
+    ghost use Rattle.grid_core.specs.Vector.{IsWithin};
+    ghost use Rattle.grid_core.specs.Segment.{IsSegment};
+    ghost use Rattle.grid_core.specs.LiveList.{names, with_segment};
+    ghost use Rattle.grid_core.specs.Tiles.{meets_tile};
+    ghost use Rattle.hot_tile.specs.Frame.{lowest};
+    ghost use Rattle.hot_tile.specs.Spots.{keys};
+    ghost use Rattle.hot_tile.specs.Tile.{frame_of};
+    ghost use Rattle.hot_tile.specs.Paths.{grown_path, grown_paths};
+    ghost use Rattle.hot_tile.specs.Drawn.{Draws};
+
+    /// The tile with this segment too: the part of the rounding of its segments and this one. The
+    /// segment lies within the bound of the tile's profile and meets the tile, its name isn't in the
+    /// tile, and the tile has fewer than 65,536 segments.
+    pub fn with_segment(&self, s: &Ur) -> Result<Tile, Memory>
+        requires within { IsSegment self.now.profile.bound s.now }
+        requires met { IsTrue (meets_tile self.now.profile self.now.id s.now) }
+        requires new { ¬ Contains (names self.now.segments) s.now.name }
+        requires few { length self.now.segments < 65536 }
+        ensures { IfOk result (λ t. t
+            ≡ record self.now { segments = with_segment self.now.segments s.now }) }
+    {
+        self.with_segment_in(s, &mut Scratch::open(self.alloc))
+    }
+
+    /// `with_segment`, in scratch that the caller lends: nothing but the new tile is allocated once
+    /// the scratch is large enough.
+    pub fn with_segment_in(&self, s: &Ur, scratch: &mut Scratch) -> Result<Tile, Memory>
+        requires within { IsSegment self.now.profile.bound s.now }
+        requires met { IsTrue (meets_tile self.now.profile self.now.id s.now) }
+        requires new { ¬ Contains (names self.now.segments) s.now.name }
+        requires few { length self.now.segments < 65536 }
+        ensures { IfOk result (λ t. t
+            ≡ record self.now { segments = with_segment self.now.segments s.now }) }
+    {
+        let segments = self.segments();
+        count_own(&mut scratch.own, &self.frame(), s, segments)?;
+        merge(
+            self.spots(),
+            &scratch.own,
+            &mut scratch.spots,
+            &mut scratch.changed,
+        )?;
+        let at = index_of(segments, s.name());
+        let listed = self.listed.with(self.alloc, at, s)?;
+        let drawn = self.draw_with(
+            at,
+            s,
+            &scratch.spots,
+            &scratch.changed,
+            &mut scratch.row,
+            &mut scratch.rows,
+        )?;
+        Ok(Tile {
+            alloc: self.alloc,
+            profile: self.profile,
+            id: self.id,
+            listed,
+            drawn,
+        })
+    }
+
+    /// These hot pixels, and the passes through them of all segments and of `s`, which comes before
+    /// the one at an index.
+    fn draw_with(
+        &self,
+        at: usize,
+        s: &Ur,
+        spots: &[Spot],
+        fresh: &[u32],
+        row: &mut Vec<u32>,
+        rows: &mut Rows,
+    ) -> Result<Option<Box<Drawn>>, Memory>
+        requires within { at ≤ length self.now.segments }
+        requires near { IsWithin (2 ^ 30 + 2 ^ 16) (lowest (frame_of self.now)) }
+        ensures { IfOk result (λ d. Draws d spots.now
+            (grown_paths self.now at s.now (keys spots.now) fresh.now)) }
+    {
+        if spots.is_empty() {
+            return Ok(None);
+        }
+        rows.clear();
+        self.grow_between(0, at, fresh, row, rows)?;
+        make_row(row, &self.frame(), s, spots)?;
+        rows.push(row)?;
+        self.grow_between(at, self.count(), fresh, row, rows)?;
+        Ok(Some(draw(self.alloc, spots, rows)?))
+    }
+
+    /// Puts the passes of the segments from one index to another behind the rows, with those through
+    /// the pixels that became hot.
+    fn grow_between(
+        &self,
+        from: usize,
+        to: usize,
+        fresh: &[u32],
+        row: &mut Vec<u32>,
+        rows: &mut Rows,
+    ) -> Result<(), Memory>
+        requires order { from ≤ to }
+        requires within { to ≤ length self.now.segments }
+        requires near { IsWithin (2 ^ 30 + 2 ^ 16) (lowest (frame_of self.now)) }
+        ensures { OnOk result (rows.new
+            ≡ rows.old ++ map (grown_path self.now fresh.now) (take (to - from) (drop from self.now.segments))) }
+    {
+        let segments = self.segments();
+        let frame = self.frame();
+        for i in from..to {
+            if fresh.is_empty() {
+                rows.push(self.row(i))?;
+            } else {
+                grow_row(row, &frame, &segments[i], self.row(i), fresh)?;
+                rows.push(row)?;
+            }
+        }
+        Ok(())
+    }
+}
+
+/// These hot pixels and passes, each vector as long as what it has.
+pub(crate) fn draw(alloc: Global, spots: &[Spot], rows: &Rows) -> Result<Box<Drawn>, Memory>
+    ensures spots { IfOk result (λ d. d.value.spots.items ≡ spots.now) }
+    ensures rows { IfOk result (λ d. d.value.rows ≡ rows.now) }
+{
+    let drawn = Drawn {
+        spots: Vec::from_slice(alloc, spots)?,
+        rows: rows.copy(alloc)?,
+    };
+    Ok(Box::new(alloc, drawn)?)
+}

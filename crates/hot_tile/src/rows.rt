@@ -1,0 +1,91 @@
+//! Lists of numbers, one behind the other in one vector.
+
+use grid_core::Memory;
+use std::alloc::Global;
+use std::marker::Model;
+
+/// A list of lists of numbers: the rows.
+///
+/// ```text
+///   ends         2     3  3        6          row 2 is empty
+///   steps   [a b]   [c] []  [d e f]
+/// ```
+#[derive(Drop)]
+pub(crate) struct Rows {
+    /// Where each row ends, and the next begins.
+    ends: Vec<usize>,
+    /// The rows, one behind the other.
+    steps: Vec<u32>,
+}
+
+impl Model for Rows {
+    ghost use Rattle.std.specs.Prelude.{List, ℕ, length};
+    ghost use Rattle.hot_tile.specs.Rows.{cut, AreEnds};
+
+    ghost Value = { List (List ℕ) };
+
+    ghost view = { λ r. cut 0 r.ends.items r.steps.items };
+
+    ghost invariant = { λ r. AreEnds 0 r.ends.items (length r.steps.items) };
+}
+
+impl Rows {
+    ghost use Rattle.std.specs.Prelude.{◌≡◌, ◌<◌, ◌++◌, ◌∷◌, [], length, sum_by, slice_index_or, IfOk, OnOk};
+
+    /// No rows. Takes no memory.
+    pub(crate) fn open(alloc: Global) -> Rows
+        ensures { result ≡ [] }
+    {
+        Rows {
+            ends: Vec::new(alloc),
+            steps: Vec::new(alloc),
+        }
+    }
+
+    /// How many numbers the rows have together.
+    pub(crate) fn total(&self) -> usize
+        ensures { result ≡ sum_by length self.now }
+    {
+        self.steps.len()
+    }
+
+    /// The row at an index.
+    #[inline]
+    pub(crate) fn row(&self, i: usize) -> &[u32]
+        requires { i < length self.now }
+        ensures { result.now ≡ slice_index_or self.now i [] }
+    {
+        let start = if i == 0 { 0 } else { self.ends[i - 1] };
+        &self.steps[start..self.ends[i]]
+    }
+
+    /// Takes all rows away. Takes no memory, and gives none back.
+    pub(crate) fn clear(&mut self)
+        ensures { self.new ≡ [] }
+    {
+        self.ends.clear();
+        self.steps.clear();
+    }
+
+    /// Puts a row behind the others.
+    #[inline]
+    pub(crate) fn push(&mut self, row: &[u32]) -> Result<(), Memory>
+        ensures { OnOk result (self.new ≡ self.old ++ row.now ∷ []) }
+    {
+        self.ends.reserve(1)?;
+        self.steps.extend_from_slice(row)?;
+        let put = self.ends.push(self.steps.len());
+        prove!(put.is_ok());
+        Ok(())
+    }
+
+    /// The same rows, each vector as long as what it has.
+    pub(crate) fn copy(&self, alloc: Global) -> Result<Rows, Memory>
+        ensures { IfOk result (λ rows. rows ≡ self.now) }
+    {
+        Ok(Rows {
+            ends: Vec::from_slice(alloc, &self.ends)?,
+            steps: Vec::from_slice(alloc, &self.steps)?,
+        })
+    }
+}

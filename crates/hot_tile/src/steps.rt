@@ -1,0 +1,135 @@
+//! Rows of steps: the passes of a segment through the hot pixels of a tile, in order along it.
+
+ghost use Rattle.std.specs.Prelude.{◌≡◌, ◌+◌, ◌<◌, ◌≤◌, ◌^◌, [], not, OnOk};
+ghost use Rattle.std.specs.Prelude.{length, take, drop, filter};
+ghost use Rattle.std.specs.Ordering.{nat_cmp, is_lt, MatchOrdering};
+ghost use Rattle.std.specs.List.Sorted.{IsStrictlySortedBy};
+ghost use Rattle.std.specs.BTreeSet.{insert_key};
+ghost use Rattle.grid_core.specs.Vector.{IsWithin};
+ghost use Rattle.hot_tile.specs.Frame.{lowest};
+ghost use Rattle.hot_tile.specs.Spots.{keys};
+ghost use Rattle.hot_tile.specs.Steps.{grown_row, thinned_row, turned_keys};
+ghost use Rattle.hot_tile.specs.Steps.{StepFirst, SameStep, GoneFirst};
+
+use crate::frame::{Frame, step_of, turn};
+use crate::rows::Rows;
+use crate::spots::Spot;
+use grid_core::{Memory, Ur};
+use pixel_test::meets_pixel;
+use std::cmp::Ordering;
+
+/// How many steps of a row, which stands in order, are lesser: where the step stands, or would stand.
+fn index_of_step(row: &[u32], step: u32) -> usize
+    requires { IsStrictlySortedBy nat_cmp row.now }
+    ensures within { result ≤ length row.now }
+    ensures lesser { take result row.now ≡ filter (λ k. is_lt (nat_cmp k step)) row.now }
+    ensures others { drop result row.now ≡ filter (λ k. not (is_lt (nat_cmp k step))) row.now }
+{
+    row.partition_point(|k| *k < step)
+}
+
+/// Puts a step in its place into a row, where it isn't there yet.
+pub(crate) fn put(row: &mut Vec<u32>, step: u32) -> Result<(), Memory>
+    requires { IsStrictlySortedBy nat_cmp row.old.items }
+    ensures { OnOk result (row.new.items ≡ insert_key nat_cmp row.old.items step) }
+{
+    let at = index_of_step(row, step);
+    if at < row.len() && row[at] == step {
+        return Ok(());
+    }
+    row.insert(at, step)?;
+    Ok(())
+}
+
+/// Makes `row` the row of `u` with those of the pixels, given by their keys, that `u` meets.
+pub(crate) fn grow_row(
+    row: &mut Vec<u32>,
+    frame: &Frame,
+    u: &Ur,
+    old: &[u32],
+    pixels: &[u32],
+) -> Result<(), Memory>
+    requires rising { IsStrictlySortedBy nat_cmp old.now }
+    requires near { IsWithin (2 ^ 30 + 2 ^ 16) (lowest frame.now) }
+    ensures { OnOk result (row.new.items ≡ grown_row frame.now u.now old.now pixels.now) }
+{
+    row.clear();
+    row.extend_from_slice(old)?;
+    for key in pixels {
+        if meets_pixel(u, frame.pixel_at(*key)) {
+            put(row, step_of(u, *key))?;
+        }
+    }
+    Ok(())
+}
+
+/// Makes `row` the row of `s` in a tile with these hot pixels.
+pub(crate) fn make_row(
+    row: &mut Vec<u32>,
+    frame: &Frame,
+    s: &Ur,
+    spots: &[Spot],
+) -> Result<(), Memory>
+    requires { IsWithin (2 ^ 30 + 2 ^ 16) (lowest frame.now) }
+    ensures { OnOk result (row.new.items ≡ grown_row frame.now s.now [] (keys spots.now)) }
+{
+    row.clear();
+    for spot in spots {
+        if meets_pixel(s, frame.pixel_at(spot.key)) {
+            put(row, step_of(s, spot.key))?;
+        }
+    }
+    Ok(())
+}
+
+/// Which of two steps of two rows, each in order, comes first.
+#[inline(always)]
+fn order(old: &[u32], i: usize, gone: &[u32], j: usize) -> Ordering
+    requires rising { IsStrictlySortedBy nat_cmp old.now }
+    requires gone_rising { IsStrictlySortedBy nat_cmp gone.now }
+    requires within { i < length old.now }
+    requires gone_within { j ≤ length gone.now }
+    ensures { MatchOrdering result (StepFirst old.now i gone.now j)
+        (SameStep old.now i gone.now j) (GoneFirst old.now i gone.now j) }
+{
+    if j == gone.len() {
+        return Ordering::Less;
+    }
+    old[i].cmp(&gone[j])
+}
+
+/// Makes `row` the row without the steps that are gone. Both stand in order.
+pub(crate) fn thin_row(row: &mut Vec<u32>, old: &[u32], gone: &[u32]) -> Result<(), Memory>
+    requires rising { IsStrictlySortedBy nat_cmp old.now }
+    requires gone_rising { IsStrictlySortedBy nat_cmp gone.now }
+    ensures { OnOk result (row.new.items ≡ thinned_row gone.now old.now) }
+{
+    row.clear();
+    let mut i = 0;
+    let mut j = 0;
+    'steps: while i < old.len() {
+        match order(old, i, gone, j) {
+            Ordering::Less => {
+                row.push(old[i])?;
+                i += 1;
+            }
+            Ordering::Equal => {
+                i += 1;
+                j += 1;
+            }
+            Ordering::Greater => j += 1,
+        }
+    }
+    Ok(())
+}
+
+/// Makes `turned` the keys where rows are counted from above, in order.
+pub(crate) fn turn_keys(turned: &mut Vec<u32>, keys: &[u32]) -> Result<(), Memory>
+    ensures { OnOk result (turned.new.items ≡ turned_keys keys.now) }
+{
+    turned.clear();
+    for key in keys {
+        put(turned, turn(*key))?;
+    }
+    Ok(())
+}
