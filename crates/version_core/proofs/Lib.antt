@@ -1,0 +1,6 @@
+pub mod Rebased
+pub mod Apart
+pub mod Gains
+pub mod Spans
+pub mod Rebasing
+pub mod Histories

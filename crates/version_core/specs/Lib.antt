@@ -1,0 +1,4 @@
+pub mod Edits
+pub mod History
+pub mod Stands
+pub mod Laws

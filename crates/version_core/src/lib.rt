@@ -1,0 +1,22 @@
+//! Changes of a drawing, their histories, and the law by which a change that was prepared on an older
+//! live list may be committed to a newer one.
+//!
+//! ```text
+//!    history   1: insert 3.1 (0,0)-(2000,0)      tiles (0,0) .. (7,0)
+//!              2: insert 2.1 (1500,-5)-(1500,5)  tiles (5,-1) (5,0)
+//!
+//!    editor 1 prepared on version 1: insert 1.1 (10,-5)-(10,5), tiles (0,-1) (0,0).
+//!    Change 2 shares no tile with it, so what was prepared stands after change 2 too: it fits, its
+//!    tiles are what they will be, and it gains as many passes and spans.
+//! ```
+
+#![tactic(auto)]
+
+mod change;
+mod laws;
+
+pub use change::{Change, Edit};
+pub use laws::changes_are_rebased;
+
+#[cfg(test)]
+mod tests;
