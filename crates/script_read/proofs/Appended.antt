@@ -1,5 +1,5 @@
 -- Three parts appended one behind the other, and what a buffer begins with where the last failed.
-use Rattle.std.proofs.Common.{◌≡◌, ◌++◌, ℕ, List, ◌∙◌, ap, append_assoc}
+use Rattle.std.proofs.Common.{◌≡◌, ◌++◌, ℕ, List, ◌∙◌, append_assoc}
 use Rattle.std.specs.Prelude.{Result, OnOk, OnErr}
 use Rattle.std.proofs.lemmas.Result.{on_ok_weaker, on_err_weaker}
 use Rattle.seg_text.specs.Text.{BeginsWith}

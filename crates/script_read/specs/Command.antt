@@ -1,5 +1,5 @@
 -- Commands: what the fields behind an editor ask for, and which commands are fair.
-use Rattle.std.specs.Prelude.{◌≡◌, ℕ, ◌≤◌, ◌^◌, Bool, true, false, List, [], ◌∷◌, codes, bytes_eq, if◌then◌else◌, Option, Some, None, option_map, option_and_then}
+use Rattle.std.specs.Prelude.{ℕ, ◌≤◌, ◌^◌, Bool, true, false, List, [], ◌∷◌, codes, bytes_eq, if◌then◌else◌, Option, Some, None, option_map, option_and_then}
 use Rattle.grid_core.specs.declared.point.Point.{Point}
 use Rattle.grid_core.specs.Name.{Label}
 use Rattle.grid_core.specs.Vector.{IsWithin}
@@ -46,8 +46,10 @@ query_of verb fields =
     if bytes_eq verb (codes "locate") then option_map Locate (point_alone fields)
     else if bytes_eq verb (codes "route") then option_map Route (name_alone fields)
     else if bytes_eq verb (codes "hot") then option_map Hot (point_alone fields)
-    else if bytes_eq verb (codes "bundle") then option_map (λ ends. Bundle ends.0 ends.1) (points_alone fields)
-    else if bytes_eq verb (codes "contour") then option_map (λ ends. Contour ends.0 ends.1) (points_alone fields)
+    else if bytes_eq verb (codes "bundle")
+    then option_map (λ ends. Bundle ends.0 ends.1) (points_alone fields)
+    else if bytes_eq verb (codes "contour")
+    then option_map (λ ends. Contour ends.0 ends.1) (points_alone fields)
     else if bytes_eq verb (codes "show") then alone Show fields
     else None
 
@@ -55,7 +57,8 @@ query_of verb fields =
 unfoldable pub act_of : List ℕ → List (List ℕ) → Option Act
 act_of verb fields =
     if bytes_eq verb (codes "take") then alone Take fields
-    else if bytes_eq verb (codes "insert") then option_map (λ ends. Insert ends.0 ends.1) (points_alone fields)
+    else if bytes_eq verb (codes "insert")
+    then option_map (λ ends. Insert ends.0 ends.1) (points_alone fields)
     else if bytes_eq verb (codes "delete") then option_map Delete (name_alone fields)
     else if bytes_eq verb (codes "reads") then alone Reads fields
     else if bytes_eq verb (codes "commit") then alone Commit fields

@@ -36,7 +36,9 @@ unfoldable pub command_from : List ℕ → List (List ℕ) → Option Command
 command_from editor [] = None
 command_from editor (verb ∷ fields) =
     option_and_then
-    (λ e. option_map (λ act. record { editor = e; act = act }) (option_and_then served (act_of verb fields)))
+    (λ e. option_map
+    (λ act. record { editor = e; act = act })
+    (option_and_then served (act_of verb fields)))
     (editor_of editor)
 
 -- what a line is by its fields: quiet where there are none or the first begins with `#`
@@ -59,7 +61,8 @@ pub record NumberedLine : Type 0 where
 -- the lines, numbered from n on
 abbrev pub numbered_from : ℕ → List (List ℕ) → List NumberedLine
 numbered_from n [] = []
-numbered_from n (line ∷ lines) = record { number = n; line = line_of line } ∷ numbered_from (n + 1) lines
+numbered_from n (line ∷ lines) =
+    record { number = n; line = line_of line } ∷ numbered_from (n + 1) lines
 
 -- the lines of a script, numbered from 1
 abbrev pub script_of : List ℕ → List NumberedLine

@@ -4,7 +4,7 @@ use Rattle.std.specs.Prelude.{ℕ, Bool, true, false, if◌then◌else◌, List,
 use Rattle.std.specs.Fmt.{signed_decimal}
 use Rattle.grid_core.specs.declared.tile.TileId.{TileId}
 use Rattle.grid_core.specs.Edge.{EdgeEnds}
-use Rattle.seg_text.specs.Text.{name_text, point_text, spaced_point, spaced_name}
+use Rattle.seg_text.specs.Text.{name_text, spaced_point, spaced_name}
 use Rattle.script_read.specs.declared.reply.Reply.{Reply}
 use Rattle.script_read.specs.declared.reply.Said.{Said}
 use Rattle.script_read.specs.declared.reply.Said.TheVariants.{At, Ready, Refused, Reads, Nothing, Dropped, Commit, Stale, Full, Vertex, OnEdge, Between, Route, Unknown, Hot, Cold, Bundle, NoEdge, Contour, Show}

@@ -1,7 +1,7 @@
 //! The lines of an input.
 
-ghost use Rattle.std.specs.Prelude.{◌≡◌, ◌+◌, ◌-◌, ◌<◌, ◌≤◌, ◌==◌, ◌↔◌, ◌∷◌, length, drop, position};
-ghost use Rattle.std.specs.Prelude.{slice_range, IsNone, IfSome};
+ghost use Rattle.std.specs.Prelude.{◌≡◌, ◌+◌, ◌-◌, ◌<◌, ◌≤◌, ◌==◌, ◌↔◌, ◌∷◌, length, drop};
+ghost use Rattle.std.specs.Prelude.{position, slice_range, IsNone, IfSome};
 ghost use Rattle.script_read.specs.Lines.{lines_of, IsLineSpan};
 
 use memchr::memchr;

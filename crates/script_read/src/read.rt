@@ -4,8 +4,9 @@ ghost use Rattle.std.specs.Prelude.{◌≡◌, ◌≤◌, ◌^◌, [], ◌∷◌
 ghost use Rattle.std.specs.Prelude.{IfSome, IfNone};
 ghost use Rattle.grid_core.specs.Vector.{IsWithin};
 ghost use Rattle.seg_text.specs.Fields.{fields_of, fields_from};
-ghost use Rattle.script_read.specs.Command.{alone, name_alone, point_alone, points_alone, point_of, points_of};
-ghost use Rattle.script_read.specs.Command.{act_of, query_of, IsFairAct, IsFairQuery, IsFair};
+ghost use Rattle.script_read.specs.Command.{alone, name_alone, point_alone, points_alone};
+ghost use Rattle.script_read.specs.Command.{point_of, points_of, act_of, query_of};
+ghost use Rattle.script_read.specs.Command.{IsFairAct, IsFairQuery, IsFair};
 ghost use Rattle.script_read.specs.Lines.{without_return, command_from, line_from, line_of};
 ghost use Rattle.script_read.specs.Lines.{is_comment, IsFairLine};
 

@@ -241,7 +241,8 @@ fn push_bundle(out: &mut Vec<u8>, edge: Edge, names: &[Name]) -> Result<(), Memo
 
 fn push_contour(out: &mut Vec<u8>, points: &[Point], area2: i128) -> Result<(), Memory>
     ensures text { OnOk result (out.new.items
-        ≡ out.old.items ++ said_text (Said.Contour (record { points = points.now; area2 = area2 }))) }
+        ≡ out.old.items
+        ++ said_text (Said.Contour (record { points = points.now; area2 = area2 }))) }
     ensures memory { OnErr result (BeginsWith out.new.items out.old.items) }
 {
     push_count(out, " contour ", points.len())?;
