@@ -1,0 +1,9 @@
+pub mod Columns
+pub mod Corners
+pub mod Floors
+pub mod Lines
+pub mod Products
+pub mod Room
+pub mod Rows
+pub mod Walked
+pub mod Walking
