@@ -65,7 +65,8 @@ around_cmp v u w = ordering_then (clockwise_cmp (minus u v) (minus w v)) (point_
 abbrev pub around : List EdgeEnds → Point → List Point
 around es v = rising (around_cmp v) (neighbours es v)
 
--- the neighbour of v that follows u: the first one after u, and after the last one the first of all
+-- the neighbour of v that follows u: the first one after u, and after the last one the first of
+-- all; u itself where v has no neighbour
 abbrev pub next_around : List EdgeEnds → Point → Point → Point
 next_around es v u =
     let after_u = filter (λ w. is_lt (around_cmp v u w)) (around es v) in
@@ -80,8 +81,8 @@ unfoldable pub steps_after : List EdgeEnds → ℕ → HalfEdge → List HalfEdg
 steps_after es zero h = []
 steps_after es (suc n) h = next es h ∷ steps_after es n (next es h)
 
--- the walk from h until it is back: h, and the half-edges after it before h comes again;
--- it comes again after at most as many steps as there are half-edges
+-- the walk from h until it is back: h, and the half-edges after it before h comes again. Where h is
+-- one of the half-edges, it comes again after at most as many steps as there are half-edges
 abbrev pub walk : List EdgeEnds → HalfEdge → List HalfEdge
 walk es h = h ∷ take_while (λ g. not (half_edge_eq g h)) (steps_after es (length (half_edges es)) h)
 

@@ -109,7 +109,8 @@ place_among vs es q =
 abbrev pub place_of : List Segment → Point → Place
 place_of ss q = place_among (hot ss) (edges ss) q
 
--- the edge has the vertex's column, both ends included
+-- the vertex's column is one of the edge's, its greater end's included: a vertex bounds a cell from
+-- both sides, so here, unlike in spans, both end columns count
 abbrev pub reaches : EdgeEnds → Point → Bool
 reaches e h = int_le e.a.x h.x && int_le h.x e.b.x
 
@@ -125,8 +126,8 @@ abbrev pub is_at_least : Option EdgeEnds → Point → Bool
 is_at_least None h = true
 is_at_least (Some e) h = not (reaches e h) || int_le (pos 0) (side_of_edge e (query_point h))
 
--- the number of the strip in which q lies: strip k has the columns from width k up to, and without,
--- width (k + 1)
+-- the number of the strip in which q lies: strip k has the columns from width times k up to, and
+-- without, width times (k + 1)
 abbrev pub strip_of : ℕ → Point → ℤ
 strip_of width q = int_div_euclid q.x (pos 256 *ℤ pos width)
 

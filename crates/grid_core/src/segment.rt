@@ -1,6 +1,6 @@
 //! Segments of a drawing: a name and two different ends.
 
-ghost use Rattle.std.specs.Prelude.{◌↔◌, ◌≤◌, ◌^◌, unsigned_abs, IsTrue, IsFalse};
+ghost use Rattle.std.specs.Prelude.{◌↔◌, ◌^◌, unsigned_abs, IsTrue, IsFalse};
 ghost use Rattle.grid_core.specs.Vector.{IsWithin, IsOutside};
 
 use crate::{Name, Point, Profile};
