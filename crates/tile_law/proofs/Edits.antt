@@ -6,7 +6,7 @@ use Rattle.std.proofs.Common.{◌≡◌, refl, ap, sym, subst, ◌∙◌, IsTrue
 use Rattle.std.proofs.Common.{List, [], ◌∷◌, ◌++◌, map, filter, Contains, Ordering, Less, Equal, Greater, is_lt}
 use Rattle.std.specs.Prelude.{◌<◌}
 use Rattle.std.specs.Cmp.{IsTotalOrder}
-use Rattle.std.specs.List.{AllByRecursion, list_any}
+use Rattle.std.specs.List.{AllByRecursion}
 use Rattle.std.specs.List.Sorted.{IsStrictlySortedBy}
 use Rattle.std.specs.Ordering.{eq_by_cmp, is_eq, ordering_reverse}
 use Rattle.std.proofs.lemmas.Bool.{false_from_ne_true}
@@ -19,9 +19,8 @@ use Rattle.grid_core.specs.Segment.{Segment}
 use Rattle.grid_core.specs.Tiles.{meets_tile, near, part_of}
 use Rattle.grid_core.proofs.Comparisons.{label_decides}
 use Rattle.grid_core.proofs.Filters.{filter_swapped, none_kept, every_kept}
-use Rattle.grid_core.proofs.ListMembers.{contains_cases, contains_filter, contains_map, sorted_filter}
-use Rattle.grid_core.proofs.Order.{label_total, label_exact}
-use Rattle.grid_core.proofs.RisingMembers.{any_iff}
+use Rattle.grid_core.proofs.ListMembers.{contains_cases, contains_filter, sorted_filter}
+use Rattle.grid_core.proofs.Order.{label_total}
 use Rattle.tile_law.specs.Laws.{IsFar, EditsAreLocal, PartsAfterEdits}
 use Rattle.tile_law.proofs.Locality.{part_by_near}
 use Rattle.tile_law.proofs.RouteTiles.{one_of_key}
@@ -91,13 +90,6 @@ one_of_name ss s u sorted c d e =
 pub far_name : (pr : Sizes) (t : TileId) (ss : List Segment) (s : Segment) → IsStrictlySortedBy label_cmp (names ss)
     → Contains ss s → meets_tile pr t s ≡ false → IsFar pr t ss s.name
 far_name pr t ss s sorted c miss u d e = subst (λ v. meets_tile pr t v ≡ false) (one_of_name ss s u sorted c d e) miss
-
--- a name is far from each tile where no segment of the list has it
-pub far_new_name : (pr : Sizes) (t : TileId) (ss : List Segment) (name : Label)
-    → list_any (label_eq name) (names ss) ≡ false → IsFar pr t ss name
-far_new_name pr t ss name free u d e =
-    absurd (true≢false (sym ((any_iff label_total label_exact name (names ss)).1
-    ((contains_map (λ (v : Segment). v.name) ss name).1 (d.0, u, d.1, d.2, e))) ∙ free))
 
 -- ---- near a tile
 

@@ -2,7 +2,7 @@
 -- a pixel meets its tile. A point of the segment that lies in the pixel lies in the tile, since
 -- the box of the pixel lies in that of the tile.
 
-use Rattle.std.proofs.Common.{◌≡◌, ◌↔◌, subst, arith, IsTrue}
+use Rattle.std.proofs.Common.{subst, arith, IsTrue}
 use Rattle.std.specs.Prelude.{◌<◌, ℤ, pos, ◌+ℤ◌, ◌-ℤ◌, ◌*ℤ◌, ◌≤ℤ◌, ◌<ℤ◌}
 use Rattle.std.specs.Int.{int_div_euclid}
 use Rattle.grid_core.specs.declared.point.Point.{Point}
@@ -16,7 +16,7 @@ use Rattle.grid_core.specs.Laws.{IsFromTo, HasPointIn}
 use Rattle.grid_core.proofs.Signed.{signed}
 use Rattle.grid_core.proofs.Ring.{int_mul-le_right}
 use Rattle.grid_core.proofs.Crossings.{floor_low, floor_high}
-use Rattle.grid_core.proofs.Quotients.{times_more, floor_le, floor_ge}
+use Rattle.grid_core.proofs.Quotients.{times_more}
 use Rattle.grid_core.proofs.MeetingPoint.{meets_where_a_point_lies}
 use Rattle.grid_core.proofs.TileOrder.{tile_decides}
 
@@ -78,25 +78,3 @@ pub met_tile : (pr : Sizes) → 0 < pr.side → (s : Segment) (t : TileId) (h : 
     → IsTrue (meets_pixel_of s h) → IsTrue (meets_tile pr t s)
 met_tile pr some s t h i m =
     subst (λ t. IsTrue (meets_tile pr t s)) ((tile_decides (tile_of pr h) t).0 i) (meets_tile_of pr some s h m)
-
--- a pixel lies in a tile exactly where it lies in the tile's box
-pub in_tile_box : (pr : Sizes) → 0 < pr.side → (t : TileId) (h : Point)
-    → IsTrue (in_tile pr t h) ↔ IsWithinBox (box_of h) (tile_box pr t)
-in_tile_box pr some t h = (
-  λ i. subst (λ t. IsWithinBox (box_of h) (tile_box pr t)) ((tile_decides (tile_of pr h) t).0 i)
-      (in_box_of_tile pr some h),
-  λ w. (tile_decides (tile_of pr h) t).1 (same (column h.x t.i w.0 w.1) (column h.y t.j w.2 w.3)),
-)
-  where
-    positive : pos 0 <ℤ pos pr.side
-    positive = omega (arith, signed, some)
-
-    column : (x k : ℤ) → (pos pr.side *ℤ k) ≤ℤ x → x ≤ℤ (pos pr.side *ℤ k +ℤ pos pr.side -ℤ pos 1)
-        → int_div_euclid x (pos pr.side) ≡ k
-    column x k low high =
-        let least = floor_ge x (pos pr.side) k positive low in
-        let most = floor_le x (pos pr.side) k positive (omega (arith, signed, high, times_more (pos pr.side) k)) in
-        omega (arith, signed, least, most)
-
-    same : int_div_euclid h.x (pos pr.side) ≡ t.i → int_div_euclid h.y (pos pr.side) ≡ t.j → tile_of pr h ≡ t
-    same x y = λ i. record { i = x i; j = y i }

@@ -55,7 +55,8 @@ MetTilesAreInReach pr s =
 
 -- by x, and at one x by y, upwards, or downwards where the segment falls
 abbrev pub place_cmp : Segment → Point → Point → Ordering
-place_cmp s g h = ordering_then (int_cmp g.x h.x) (if falls s then int_cmp h.y g.y else int_cmp g.y h.y)
+place_cmp s g h =
+    ordering_then (int_cmp g.x h.x) (if falls s then int_cmp h.y g.y else int_cmp g.y h.y)
 
 -- the pixels that s meets stand along s by place
 abbrev pub PixelsStandByPlace : Segment → Type 0
@@ -83,10 +84,15 @@ pub record RouteIsJoined (pr : Sizes) (ss : List Segment) (s : Segment) : Type 0
       → Contains ss s
       → route ss s ≡ flat_map (λ t. route_in (part_of pr t ss) s.name) (along pr s)
 
--- the tiles stand in the list each once, and each tile that a segment of the list meets is one of them
+-- the tiles stand in the list each once, and each tile that a segment of the list meets is one of
+-- them
 pub record CoversTiles (pr : Sizes) (ss : List Segment) (ts : List TileId) : Type 0 where
   pub once : IsDistinct tile_eq ts
-  pub all : (s : Segment) → Contains ss s → (t : TileId) → IsTrue (meets_tile pr t s) → Contains ts t
+  pub all : (s : Segment)
+      → Contains ss s
+      → (t : TileId)
+      → IsTrue (meets_tile pr t s)
+      → Contains ts t
 
 -- how many passes the parts in some tiles have together
 abbrev pub passes_in_tiles : Sizes → List TileId → List Segment → ℕ

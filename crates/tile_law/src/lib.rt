@@ -1,9 +1,9 @@
 //! The laws of tiles, for every profile, segment and list of segments: which tiles a segment meets,
-//! in which order; that the part of a rounding in a tile is made by the segments that meet the tile;
-//! that routes are their pieces in tiles, joined, and that passes add up over tiles.
+//! in which order; that the part of a rounding in a tile is made by the segments that meet the
+//! tile; that routes are their pieces in tiles, joined, and that passes add up over tiles.
 //!
-//! A call gives its caller the law, and does nothing when it runs. It reads a size or an end so that
-//! what the type keeps is known.
+//! A call gives its caller the law, and does nothing when it runs. It reads a size or an end so
+//! that what the type keeps is known.
 
 #![tactic(auto)]
 
@@ -13,8 +13,8 @@ ghost use Rattle.tile_law.specs.Laws.{PassesAddUp, EditsAreLocal, PartsAfterEdit
 
 use grid_core::{Profile, Ur};
 
-/// `tiles` has exactly the tiles that `s` meets, by column and then row, and `along` has them in the
-/// order in which `s` meets them from `p` to `q`. Each stands there once.
+/// `tiles` has exactly the tiles that `s` meets, by column and then row, and `along` has them in
+/// the order in which `s` meets them from `p` to `q`. Each stands there once.
 pub fn tiles_are_met(profile: &Profile, s: &Ur)
     ensures { TilesAreMet profile.now s.now }
 {
@@ -63,8 +63,8 @@ pub fn routes_are_joined(profile: &Profile, segments: &[Ur], s: &Ur)
 }
 
 /// The passes of a rounding are the sum of those of its parts, over tiles that have all segments.
-/// Where two lists have the same segments in all other tiles, their passes differ by as much as those
-/// of the parts in these tiles.
+/// Where two lists have the same segments in all other tiles, their passes differ by as much as
+/// those of the parts in these tiles.
 pub fn passes_add_up(profile: &Profile, segments: &[Ur])
     ensures { PassesAddUp profile.now segments.now }
 {
