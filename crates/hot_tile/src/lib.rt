@@ -39,3 +39,6 @@ mod tile;
 
 pub use scratch::Scratch;
 pub use tile::Tile;
+
+#[cfg(test)]
+mod tests;
