@@ -33,11 +33,6 @@ pub row_at : (t : TileContent) (rows : List (List ℕ)) → near t.profile t.id 
 row_at t rows meet e i d lt =
     ap (λ (xs : List (List ℕ)). get_or xs i []) (e ∙ rows_are t meet) ∙ get_or-map (path_in t) t.segments i d [] lt
 
--- there are as many rows as segments
-pub rows_length : (t : TileContent) (rows : List (List ℕ)) → near t.profile t.id t.segments ≡ t.segments → rows ≡ rows_in t
-    → length rows ≡ length t.segments
-rows_length t rows meet e = ap length (e ∙ rows_are t meet) ∙ length-map t.segments (path_in t)
-
 -- where nothing is drawn all rows are empty
 pub row_none : (t : TileContent) → near t.profile t.id t.segments ≡ t.segments → map (λ (s : Segment). []) t.segments ≡ rows_in t
     → (i : ℕ) (d : Segment) → i < length t.segments → [] ≡ path_in t (get_or t.segments i d)

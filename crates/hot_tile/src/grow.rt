@@ -116,8 +116,8 @@ impl Tile {
         requires order { from ≤ to }
         requires within { to ≤ length self.now.segments }
         requires near { IsWithin (2 ^ 30 + 2 ^ 16) (lowest (frame_of self.now)) }
-        ensures { OnOk result (rows.new
-            ≡ rows.old ++ map (grown_path self.now fresh.now) (take (to - from) (drop from self.now.segments))) }
+        ensures { OnOk result (rows.new ≡ rows.old ++ map (grown_path self.now fresh.now)
+            (take (to - from) (drop from self.now.segments))) }
     {
         let segments = self.segments();
         let frame = self.frame();

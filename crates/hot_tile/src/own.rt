@@ -1,11 +1,10 @@
 //! What a segment counts in a tile by its own: its ends, and its crossings with the others.
 
-ghost use Rattle.std.specs.Prelude.{◌≡◌, ◌++◌, ◌≤◌, ◌^◌, [], length, fold, All, IfSome, OnOk};
+ghost use Rattle.std.specs.Prelude.{◌≡◌, ◌≤◌, ◌^◌, length, fold, All, OnOk};
 ghost use Rattle.std.specs.Ordering.{nat_cmp};
 ghost use Rattle.std.specs.List.Sorted.{IsStrictlySortedBy};
-ghost use Rattle.grid_core.specs.Rounding.{crossing_pixel};
 ghost use Rattle.hot_tile.specs.Spots.{counted, keys, IsSmall};
-ghost use Rattle.hot_tile.specs.Own.{own_spots, end_spots, crossing_spots, end_spot, crossing_spot};
+ghost use Rattle.hot_tile.specs.Own.{own_spots, end_spot, crossing_spot};
 
 use crate::frame::Frame;
 use crate::spots::{Spot, count};

@@ -30,8 +30,12 @@ impl Model for Scratch {
 }
 
 impl Scratch {
+    ghost use Rattle.std.specs.Prelude.{◌≡◌};
+
     /// Empty scratch. Takes no memory.
-    pub fn open(alloc: Global) -> Scratch {
+    pub fn open(alloc: Global) -> Scratch
+        ensures { result ≡ tt }
+    {
         Scratch {
             own: Vec::new(alloc),
             spots: Vec::new(alloc),

@@ -106,8 +106,8 @@ impl Tile {
         requires within { to ≤ length self.now.segments }
         requires rising { IsStrictlySortedBy nat_cmp cold.now }
         requires turned { turned.now ≡ turned_keys cold.now }
-        ensures { OnOk result (rows.new
-            ≡ rows.old ++ map (thinned_path self.now cold.now) (take (to - from) (drop from self.now.segments))) }
+        ensures { OnOk result (rows.new ≡ rows.old ++ map (thinned_path self.now cold.now)
+            (take (to - from) (drop from self.now.segments))) }
     {
         let segments = self.segments();
         for i in from..to {
