@@ -14,8 +14,8 @@ use Rattle.grid_core.proofs.Signed.{signed, size_bounds, size_between}
 use Rattle.tile_law.specs.Laws.{MetTilesAreInReach}
 use Rattle.tile_law.proofs.MetTiles.{met_between}
 
--- a coordinate within the bound lies in a column from -16,384 to 16,384
-column_reach : (pr : Sizes) → IsProfile pr → (x : ℤ) → unsigned_abs x ≤ pr.bound
+-- a coordinate within the bound lies in a column or row from -16,384 to 16,384
+pub column_reach : (pr : Sizes) → IsProfile pr → (x : ℤ) → unsigned_abs x ≤ pr.bound
     → (neg_ℤ (pos 16384) ≤ℤ int_div_euclid x (pos pr.side)) × (int_div_euclid x (pos pr.side) ≤ℤ pos 16384)
 column_reach pr profile x within =
     let positive : pos 0 <ℤ pos pr.side = omega (arith, signed, profile.some_side) in

@@ -4,3 +4,4 @@ pub mod Gains
 pub mod Spans
 pub mod Rebasing
 pub mod Histories
+pub mod Bounds
