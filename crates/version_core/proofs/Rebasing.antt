@@ -1,6 +1,6 @@
 -- The law of rebasing: a prepared change that stands on one live list stands on each other one that
 -- has the same segments near its tiles and none of the names that it inserts.
-use Rattle.std.proofs.Common.{◌≡◌, refl, ap, sym, ◌∙◌, ℕ, ◌<◌, false, true≢false, List, [], ◌∷◌, map, Contains, IsTrue}
+use Rattle.std.proofs.Common.{◌≡◌, ap, sym, ◌∙◌, ℕ, ◌<◌, false, true≢false, List, [], ◌∷◌, map, Contains, IsTrue, Option}
 use Rattle.std.specs.Prelude.{flat_map, length}
 use Rattle.std.specs.List.{AllByRecursion, IsDistinct, list_any}
 use Rattle.std.proofs.lemmas.Bool.{false_from_ne_true}
@@ -17,6 +17,7 @@ use Rattle.grid_core.proofs.RisingMembers.{sorted_rising, contains_rising, any_i
 use Rattle.grid_core.proofs.TileOrder.{tile_total, tile_exact}
 use Rattle.tile_law.proofs.MetTiles.{tiles_are_met}
 use Rattle.tile_law.proofs.TileBoxes.{meets_tile_of}
+use Rattle.hot_tile.specs.Tile.{TileContent}
 use Rattle.version_core.specs.declared.change.Edit.{Edit}
 use Rattle.version_core.specs.Edits.{after_edits, edited_segment, tiles_of_edits}
 use Rattle.version_core.specs.Stands.{PreparedChange, Stands, tile_with, content_of}
@@ -78,9 +79,16 @@ all_members : (P : TileId → Type 0) (ts : List TileId) → ((t : TileId) → C
 all_members P [] h = tt
 all_members P (t ∷ ts) h = (h t (contains_first t ts), all_members P ts (λ u c. h u (contains_later t ts u c)))
 
-map_same : {B : Type 0} (f g : TileId → B) (ts : List TileId) → AllByRecursion (λ t. f t ≡ g t) ts → map f ts ≡ map g ts
-map_same f g [] h = refl
-map_same f g (t ∷ ts) h = λ i. h.0 i ∷ map_same f g ts h.1 i
+-- contents that are those of one live list are those of another that has the same segments near their tiles
+same_contents : (pr : Sizes) (ss us : List Segment) (cs : List (TileId × Option TileContent))
+    → ((t : TileId) → Contains (map (λ c. c.0) cs) t → near pr t ss ≡ near pr t us)
+    → AllByRecursion (λ c. c.1 ≡ content_of pr c.0 ss) cs
+    → AllByRecursion (λ c. c.1 ≡ content_of pr c.0 us) cs
+same_contents pr ss us [] same h = tt
+same_contents pr ss us (c ∷ cs) same h = (
+  h.0 ∙ ap (tile_with pr c.0) (same c.0 (contains_first c.0 (map (λ d. d.0) cs))),
+  same_contents pr ss us cs (λ t k. same t (contains_later c.0 (map (λ d. d.0) cs) t k)) h.1,
+)
 
 -- the law of rebasing
 pub stands_rebased : (n : ℕ) (x : PreparedChange) → 0 < x.profile.side → (ss us : List Segment) → IsLiveList n ss
@@ -97,11 +105,9 @@ stands_rebased n x some ss us live live2 fits agree new stands =
     let once : IsDistinct tile_eq ts = IsDistinct-from_sorted tile_cmp ts (sorted_rising tile_total (all_tiles pr es)) in
     record {
       fits = fit2;
+      tiles = stands.tiles;
       contents =
-          stands.contents
-          ∙ map_same (λ t. (t, content_of pr t (after_edits ss es))) (λ t. (t, content_of pr t (after_edits us es))) ts
-          (all_members (λ t. (t, content_of pr t (after_edits ss es)) ≡ (t, content_of pr t (after_edits us es))) ts
-          (λ t c. ap (λ ns. (t, tile_with pr t ns)) (after t c)));
+          same_contents pr (after_edits ss es) (after_edits us es) x.contents (λ t c. after t ((stands.tiles t).0 c)) stands.contents;
       gain =
           stands.gain
           ∙ same_gain pr some ts once ss (after_edits ss es) us (after_edits us es)

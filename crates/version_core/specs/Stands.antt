@@ -1,6 +1,8 @@
 -- When a prepared change stands on a live list: it fits the list, it has the new content of each of
 -- its tiles, and it tells by how much it changes the two sums.
-use Rattle.std.specs.Prelude.{◌≡◌, ℕ, ℤ, pos, ◌-ℤ◌, List, [], ◌∷◌, map, length, sum_by, Option, Some, None}
+use Rattle.std.specs.Prelude.{◌≡◌, ◌↔◌, ℕ, ℤ, pos, ◌-ℤ◌, List, [], ◌∷◌, map, length, sum_by, Contains}
+use Rattle.std.specs.Prelude.{Option, Some, None}
+use Rattle.std.specs.List.{AllByRecursion}
 use Rattle.grid_core.specs.declared.tile.TileId.{TileId}
 use Rattle.grid_core.specs.Profile.{Sizes}
 use Rattle.grid_core.specs.Segment.{Segment}
@@ -35,11 +37,13 @@ pub record PreparedChange : Type 0 where
 abbrev pub after_change : List Segment → Changes → List Segment
 after_change ss x = after_edits ss x.edits
 
--- the prepared change stands on the live list
+-- the prepared change stands on the live list: it fits it; the contents are those of the change's
+-- tiles, in any order, each as it is after the change; and the gains are exact
 pub record Stands (x : PreparedChange) (ss : List Segment) : Type 0 where
   pub fits : FitEdits x.change.editor [] ss x.change.edits
-  pub contents : x.contents
-      ≡ map (λ t. (t, content_of x.profile t (after_change ss x.change))) (tiles_of_edits x.profile x.change.edits)
+  pub tiles : (t : TileId)
+      → Contains (map (λ c. c.0) x.contents) t ↔ Contains (tiles_of_edits x.profile x.change.edits) t
+  pub contents : AllByRecursion (λ c. c.1 ≡ content_of x.profile c.0 (after_change ss x.change)) x.contents
   pub gain : x.gain ≡ pos (passes_of (after_change ss x.change)) -ℤ pos (passes_of ss)
   pub span_gain : x.span_gain
       ≡ pos (spans_of x.profile (after_change ss x.change)) -ℤ pos (spans_of x.profile ss)
