@@ -26,6 +26,7 @@
 
 #![tactic(auto, using(grid_core::proofs::Signed::signed))]
 
+mod copy;
 mod frame;
 mod grow;
 mod listed;

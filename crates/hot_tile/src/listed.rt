@@ -57,6 +57,17 @@ impl Listed {
         }
     }
 
+    /// The same list, in memory of its own.
+    pub(crate) fn copy(&self, alloc: Global) -> Result<Listed, Memory>
+        ensures { IfOk result (λ l. l ≡ self.now) }
+    {
+        let form = match &self.form {
+            Form::One(s) => Form::One(*s),
+            Form::Several(list) => Form::Several(Vec::from_slice(alloc, list)?),
+        };
+        Ok(Listed { form })
+    }
+
     /// The list with a segment more, before the one at this index.
     pub(crate) fn with(&self, alloc: Global, at: usize, s: &Ur) -> Result<Listed, Memory>
         requires { at ≤ length self.now }
