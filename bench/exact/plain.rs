@@ -1,4 +1,5 @@
-//! The same two tests and the same drawn segments as `crates/bench_exact`, in plain Rust.
+//! The same tests and the same drawn segments as `crates/bench_exact`, in plain Rust.
+use std::cmp::Ordering;
 use std::env;
 
 #[derive(Clone, Copy)]
@@ -24,7 +25,7 @@ struct Case {
 struct Cross {
     num_x: i128,
     num_y: i128,
-    _den: i128,
+    den: i128,
 }
 
 fn cross(d: Point, e: Point) -> i128 {
@@ -69,27 +70,35 @@ fn crossing(s: &Ur, t: &Ur) -> Option<Cross> {
         return None;
     }
     let (d, e) = (vector(s.p, s.q), vector(t.p, t.q));
-    let den = cross(d, e);
-    let (w, den) = if den > 0 {
-        (vector(s.p, t.p), den)
-    } else if den < 0 {
-        (vector(t.p, s.p), -den)
-    } else {
-        return None;
+    let (left, right) = (d.x * e.y, d.y * e.x);
+    let w = match left.cmp(&right) {
+        Ordering::Greater => vector(s.p, t.p),
+        Ordering::Less => vector(t.p, s.p),
+        Ordering::Equal => return None,
     };
-    let u = cross(w, e);
-    if u < 0 || u > den {
-        return None;
+    let den = left.abs_diff(right);
+    let u = part(w, e, den)?;
+    part(w, d, den)?;
+    let along = |p: i64, d: i64| i128::from(p) * i128::from(den) + i128::from(u) * i128::from(d);
+    Some(Cross { num_x: along(s.p.x, d.x), num_y: along(s.p.y, d.y), den: i128::from(den) })
+}
+
+/// The cross product of two directions, if it is from 0 to `den`.
+fn part(w: Point, e: Point, den: u64) -> Option<u64> {
+    let (plus, minus) = (w.x * e.y, w.y * e.x);
+    (minus <= plus && plus.abs_diff(minus) <= den).then(|| plus.abs_diff(minus))
+}
+
+fn pixel(c: &Cross) -> Point {
+    let narrow = |n: i128| (-(1i128 << 61)..=1 << 61).contains(&n);
+    if narrow(c.num_x) && narrow(c.num_y) && narrow(c.den) {
+        let den = c.den as i64;
+        let rounded = |n: i128| (2 * n as i64 + den).div_euclid(2 * den);
+        Point { x: rounded(c.num_x), y: rounded(c.num_y) }
+    } else {
+        let rounded = |n: i128| (2 * n + c.den).div_euclid(2 * c.den) as i64;
+        Point { x: rounded(c.num_x), y: rounded(c.num_y) }
     }
-    let v = cross(w, d);
-    if v < 0 || v > den {
-        return None;
-    }
-    Some(Cross {
-        num_x: s.p.x as i128 * den + u * d.x as i128,
-        num_y: s.p.y as i128 * den + u * d.y as i128,
-        _den: den,
-    })
 }
 
 fn draw(state: &mut u32) -> u32 {
@@ -140,6 +149,23 @@ fn main() {
             }
         }
         println!("{crossed} crossings, {in_quadrant} to the right of and above (0, 0)");
+    } else if words.get(1).is_some_and(|w| w == "pixels") {
+        let mut crosses = Vec::new();
+        for step in 1..9 {
+            for (case, other) in cases.iter().zip(cases.iter().skip(step)) {
+                crosses.extend(crossing(&case.segment, &other.segment));
+            }
+        }
+        let mut in_quadrant = 0u64;
+        for _ in 0..rounds {
+            for c in &crosses {
+                let at = pixel(c);
+                if at.x > 0 && at.y > 0 {
+                    in_quadrant += 1;
+                }
+            }
+        }
+        println!("{} crossings, {in_quadrant} pixels to the right of and above (0, 0)", crosses.len());
     } else {
         let mut met = 0u64;
         for round in 0..rounds {

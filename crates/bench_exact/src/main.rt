@@ -1,7 +1,8 @@
-//! The two exact tests, to be timed from outside: it prints counts of their answers, and never times.
+//! The exact tests, to be timed from outside: it prints counts of their answers, and never times.
 //!
-//! Its first word is the number of rounds, its second `meets` or `crossings`. A round asks each of
-//! 1,024 drawn segments whether it meets a pixel near it, or where it crosses another.
+//! Its first word is the number of rounds, its second `meets`, `crossings` or `pixels`. A round asks
+//! each of 1,024 drawn segments whether it meets a pixel near it, or where it crosses another; or it
+//! asks for the pixel of each crossing of two of them that are at most eight places apart.
 
 #![tactic(auto)]
 
@@ -12,7 +13,8 @@ mod tests;
 use cases::{Case, draw_cases};
 use grid_core::Point;
 use pixel_test::meets_pixel;
-use rat_cross::crossing;
+use rat_cross::{Cross, crossing, pixel};
+use std::alloc::{AllocError, Global};
 use std::rt::Env;
 use std::{env, io};
 
@@ -28,6 +30,14 @@ fn main(rt: HostRuntime) -> io::Result<()> {
         Some(word) if word.as_str() == "crossings" => {
             let (crossed, in_quadrant) = count_crossings(&cases, rounds);
             println!(rt; "{crossed} crossings, {in_quadrant} to the right of and above (0, 0)")
+        }
+        Some(word) if word.as_str() == "pixels" => {
+            let crosses = draw_crosses(rt.alloc(), &cases)?;
+            let in_quadrant = count_pixels(&crosses, rounds);
+            println!(rt;
+                "{} crossings, {in_quadrant} pixels to the right of and above (0, 0)",
+                crosses.len()
+            )
         }
         _ => {
             let met = count_met(&cases, rounds);
@@ -72,4 +82,31 @@ fn count_crossings(cases: &[Case], rounds: u32) -> (u64, u64) {
         }
     }
     (crossed, in_quadrant)
+}
+
+/// The crossings of each segment with the eight after it.
+fn draw_crosses(alloc: Global, cases: &[Case]) -> Result<Vec<Cross>, AllocError> {
+    let mut crosses = Vec::new(alloc);
+    for step in 1usize..9 {
+        for (case, other) in cases.iter().zip(cases.iter().skip(step)) {
+            if let Some(c) = crossing(&case.segment, &other.segment) {
+                crosses.push(c)?;
+            }
+        }
+    }
+    Ok(crosses)
+}
+
+/// How many pixels of crossings lie to the right of and above (0, 0), in so many rounds.
+fn count_pixels(crosses: &[Cross], rounds: u32) -> u64 {
+    let mut in_quadrant = 0u64;
+    for _ in 0..rounds {
+        for c in crosses {
+            let at = pixel(c);
+            if at.x > 0 && at.y > 0 {
+                in_quadrant = in_quadrant.wrapping_add(1);
+            }
+        }
+    }
+    in_quadrant
 }

@@ -2,9 +2,11 @@
 -- A point between the ends of a segment is within the bound of the ends; rounding keeps it there,
 -- since the bound is a whole number.
 
-use Rattle.std.proofs.Common.{◌≡◌, ℕ, ◌+◌, ◌*◌, ◌<◌, ◌≤◌, arith, Bool, true, false, Some, None, IfSome, refl}
-use Rattle.std.specs.Prelude.{ℤ, pos, negsuc, ◌+ℤ◌, ◌-ℤ◌, ◌*ℤ◌, ◌<ℤ◌, ◌≤ℤ◌, unsigned_abs, int_lt, ◌&&◌, if◌then◌else◌}
+use Rattle.std.proofs.Common.{◌≡◌, ℕ, ◌+◌, ◌*◌, ◌<◌, ◌≤◌, ◌^◌, arith, Bool, true, false, Some, None, IfSome, refl}
+use Rattle.std.proofs.Common.{w64, SFits, to_z, of_z, to_z-of_z}
+use Rattle.std.specs.Prelude.{ℤ, pos, negsuc, neg_ℤ, ◌+ℤ◌, ◌-ℤ◌, ◌*ℤ◌, ◌<ℤ◌, ◌≤ℤ◌, unsigned_abs, int_lt, ◌&&◌, if◌then◌else◌}
 use Rattle.std.specs.Int.{int_div_euclid}
+use Rattle.std.proofs.lemmas.Bool.{and_parts}
 use Rattle.std.proofs.lemmas.Int.{ints}
 use Rattle.std.proofs.lemmas.Nat.{div_below}
 use borrow.Author.Differences.{up, down}
@@ -12,9 +14,23 @@ use Rattle.grid_core.specs.Vector.{IsWithin, cross_of, minus}
 use Rattle.grid_core.specs.Segment.{Segment, IsSegment, direction}
 use Rattle.grid_core.specs.Crossing.{RationalPoint, crossing_of, is_part, point_along, within_both}
 use Rattle.grid_core.specs.Crossing.{pixel_coordinate, pixel_of}
-use Rattle.grid_core.proofs.Signed.{signed, one_part, from_lt_true}
+use Rattle.grid_core.proofs.Signed.{signed, one_part, from_lt_true, from_le_true, product_within, fits_by_size, size_between}
 use Rattle.grid_core.proofs.Sizes.{between_within, direction_within, cross_within}
 use Rattle.rat_cross.specs.CrossPoint.{IsCrossPoint}
+use Rattle.rat_cross.specs.Narrow.{narrow_number, narrow_point}
+
+-- ---- products
+
+-- a product whose size is below 2^63
+pub made : (a b : ℤ) → SFits w64 a → SFits w64 b → unsigned_abs (a *ℤ b) < 2 ^ 63
+    → to_z w64 (of_z w64 (to_z w64 (of_z w64 a) *ℤ to_z w64 (of_z w64 b))) ≡ a *ℤ b
+made a b left right small =
+    let fits : SFits w64 (a *ℤ b) = fits_by_size w64 (a *ℤ b) (omega arith) in
+    simp to_z-of_z refl
+
+-- of factors up to 2^31 in size
+pub product_size : (a b : ℤ) → unsigned_abs a ≤ 2 ^ 31 → unsigned_abs b ≤ 2 ^ 31 → unsigned_abs (a *ℤ b) ≤ 2 ^ 62
+product_size a b h k = let l = product_within a b (2 ^ 31) (2 ^ 31) h k in omega arith
 
 -- ---- the point
 
@@ -102,4 +118,25 @@ pixel_within n c h =
       x = rounded_within c.num_x c.den n h.positive h.x;
       y = rounded_within c.num_y c.den n
           h.positive h.y;
+    }
+
+-- ---- numbers that 64 bits hold
+
+narrow_size : (n : ℤ) → narrow_number n ≡ true → unsigned_abs n ≤ 2 ^ 61
+narrow_size n h =
+    size_between n (2 ^ 61) (from_le_true (neg_ℤ (pos (2 ^ 61))) n (and_parts _ _ h).0)
+    (from_le_true n (pos (2 ^ 61)) (and_parts _ _ h).1)
+
+-- the numbers of a narrow point
+pub record IsNarrow (c : RationalPoint) : Type 0 where
+  pub x : unsigned_abs c.num_x ≤ 2 ^ 61
+  pub y : unsigned_abs c.num_y ≤ 2 ^ 61
+  pub den : unsigned_abs c.den ≤ 2 ^ 61
+
+pub narrow_sizes : (c : RationalPoint) → narrow_point c ≡ true → IsNarrow c
+narrow_sizes c h =
+    record {
+      x = narrow_size c.num_x (and_parts _ _ (and_parts _ _ h).0).0;
+      y = narrow_size c.num_y (and_parts _ _ (and_parts _ _ h).0).1;
+      den = narrow_size c.den (and_parts _ _ h).1;
     }

@@ -1,2 +1,4 @@
 pub mod Apart
 pub mod CrossPoint
+pub mod CrossProduct
+pub mod Narrow

@@ -1,16 +1,17 @@
 //! The crossing of two segments.
 
-ghost use Rattle.std.specs.Prelude.{◌≡◌, ℕ, ℤ, pos, ◌≤◌, ◌*◌, ◌^◌, ◌<ℤ◌, ◌≤ℤ◌, ◌+ℤ◌, ◌-ℤ◌, ◌*ℤ◌};
+ghost use Rattle.std.specs.Prelude.{◌≡◌, ℕ, pos, ◌≤◌, ◌<◌, ◌*◌, ◌^◌, ◌+ℤ◌, ◌-ℤ◌, ◌*ℤ◌};
 ghost use Rattle.std.specs.Prelude.{unsigned_abs, IfSome};
 ghost use Rattle.grid_core.specs.Vector.{IsWithin, cross_of, minus};
-ghost use Rattle.grid_core.specs.Segment.{IsSegment, direction};
-ghost use Rattle.grid_core.specs.Crossing.{crossing_of, is_part, point_along, within_both};
+ghost use Rattle.grid_core.specs.Segment.{IsSegment};
+ghost use Rattle.grid_core.specs.Crossing.{crossing_of, point_along, within_both};
 ghost use Rattle.rat_cross.specs.Apart.{apart_of, columns_apart_of, rows_apart_of, separate_of};
 ghost use Rattle.rat_cross.specs.Apart.{unordered_separate_of};
 ghost use Rattle.rat_cross.specs.CrossPoint.{IsCrossPoint};
 
 use crate::Cross;
-use grid_core::{Point, Ur, cross, offset, sum, vector};
+use crate::cross_product::CrossProduct;
+use grid_core::{Point, Ur, offset, sum, vector};
 
 /// The common point of two segments that aren't parallel, touches and shared ends included. `None`
 /// where they have none, or are parallel.
@@ -25,12 +26,11 @@ pub fn crossing(s: &Ur, t: &Ur) -> Option<Cross>
     }
     let d = direction_between(s.p(), s.q());
     let e = direction_between(t.p(), t.q());
-    let den = directions_cross(d, e);
-    if den > 0 {
-        common_point(s, direction_between(s.p(), t.p()), d, e, den)
-    } else if den < 0 {
-        let size = directions_cross(e, d);
-        common_point(s, direction_between(t.p(), s.p()), d, e, size)
+    let turn = CrossProduct::of(d, e);
+    if turn.is_positive() {
+        common_point(s, direction_between(s.p(), t.p()), d, e, turn.size())
+    } else if turn.is_negative() {
+        common_point(s, direction_between(t.p(), s.p()), d, e, turn.size())
     } else {
         None
     }
@@ -91,83 +91,62 @@ fn direction_between(from: Point, to: Point) -> Point
     vector(from, to)
 }
 
-/// The cross product of two directions. At most 2^63 in size.
-#[inline(always)]
-fn directions_cross(d: Point, e: Point) -> i128
-    requires first { IsWithin (2 ^ 31) d }
-    requires second { IsWithin (2 ^ 31) e }
-    ensures value { result ≡ cross_of d e }
-    ensures small { unsigned_abs result ≤ 2 ^ 63 }
-{
-    cross(d, e)
-}
-
 /// The point of `s` at the parameter `(w x e) / den`, where that and `(w x d) / den` are from 0 to
 /// 1.
 #[inline(always)]
-fn common_point(s: &Ur, w: Point, d: Point, e: Point, den: i128) -> Option<Cross>
+fn common_point(s: &Ur, w: Point, d: Point, e: Point, den: u64) -> Option<Cross>
     requires way { IsWithin (2 ^ 31) w }
     requires first { IsWithin (2 ^ 31) d }
     requires second { IsWithin (2 ^ 31) e }
-    requires positive { pos 0 <ℤ den }
-    requires small { unsigned_abs den ≤ 2 ^ 63 }
-    ensures { result ≡ within_both s.now (cross_of w e) (cross_of w d) den }
+    requires positive { 0 < den }
+    requires small { den ≤ 2 ^ 63 }
+    ensures { result ≡ within_both s.now (cross_of w e) (cross_of w d) (pos den) }
 {
-    let u = directions_cross(w, e);
-    if !is_part_of(u, den) {
+    let u = CrossProduct::of(w, e);
+    if !u.is_part_of(den) {
         return None;
     }
-    if !is_part_of(directions_cross(w, d), den) {
+    if !CrossProduct::of(w, d).is_part_of(den) {
         return None;
     }
-    Some(point_at(s, u, den))
-}
-
-/// Whether `u / den` is from 0 to 1.
-#[inline(always)]
-fn is_part_of(u: i128, den: i128) -> bool
-    ensures { result ≡ is_part u den }
-{
-    0 <= u && u <= den
+    Some(point_at(s, u.size(), den))
 }
 
 /// The point of `s` at the parameter `u / den`.
 #[inline(always)]
-fn point_at(s: &Ur, u: i128, den: i128) -> Cross
-    requires positive { pos 0 <ℤ den }
-    requires small { unsigned_abs den ≤ 2 ^ 63 }
-    requires low { pos 0 ≤ℤ u }
-    requires high { u ≤ℤ den }
-    ensures { result ≡ point_along s.now u den }
+fn point_at(s: &Ur, u: u64, den: u64) -> Cross
+    requires positive { 0 < den }
+    requires small { den ≤ 2 ^ 63 }
+    requires part { u ≤ den }
+    ensures { result ≡ point_along s.now (pos u) (pos den) }
 {
     let p = s.p();
     let q = s.q();
     let num_x = along(p.x, q.x, u, den);
     let num_y = along(p.y, q.y, u, den);
-    Cross::new(num_x, num_y, den)
+    Cross::new(num_x, num_y, i128::from(den))
 }
 
 /// What `p + (u / den) (q - p)` is in units of `1 / den`. Below 2^94 in size.
 #[inline(always)]
-fn along(p: i64, q: i64, u: i128, den: i128) -> i128
+fn along(p: i64, q: i64, u: u64, den: u64) -> i128
     requires from { unsigned_abs p ≤ 2 ^ 30 }
     requires to { unsigned_abs q ≤ 2 ^ 30 }
-    requires small { unsigned_abs den ≤ 2 ^ 63 }
-    requires low { pos 0 ≤ℤ u }
-    requires high { u ≤ℤ den }
-    ensures value { result ≡ p *ℤ den +ℤ u *ℤ (q -ℤ p) }
-    ensures within { unsigned_abs result ≤ 2 ^ 30 * unsigned_abs den }
+    requires small { den ≤ 2 ^ 63 }
+    requires part { u ≤ den }
+    ensures value { result ≡ p *ℤ pos den +ℤ pos u *ℤ (q -ℤ p) }
+    ensures within { unsigned_abs result ≤ 2 ^ 30 * den }
 {
     sum(scaled(den, p), scaled(u, offset(p, q)))
 }
 
 /// `a * b`. At most 2^94 in size.
 #[inline(always)]
-fn scaled(a: i128, b: i64) -> i128
-    requires left { unsigned_abs a ≤ 2 ^ 63 }
+fn scaled(a: u64, b: i64) -> i128
+    requires left { a ≤ 2 ^ 63 }
     requires right { unsigned_abs b ≤ 2 ^ 31 }
-    ensures value { result ≡ a *ℤ b }
+    ensures value { result ≡ pos a *ℤ b }
     ensures small { unsigned_abs result ≤ 2 ^ 94 }
 {
-    a * b as i128
+    i128::from(a) * i128::from(b)
 }

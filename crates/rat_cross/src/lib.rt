@@ -6,6 +6,7 @@
 #![tactic(auto, using(grid_core::proofs::Signed::signed))]
 
 mod cross_point;
+mod cross_product;
 mod intersection;
 
 pub use cross_point::{Cross, pixel};

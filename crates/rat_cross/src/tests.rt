@@ -42,3 +42,43 @@ fn worked_pixels(rt: HostRuntime) {
         assert_eq!(rt; pixel(&c), Point { x, y }, "{first:?} and {second:?}");
     }
 }
+
+/// Near a corner of the range the numerators are greater than 2^61, and near its middle they aren't.
+#[test]
+fn pixels_over_the_whole_range(rt: HostRuntime) {
+    for (way, first, second, x, y) in [
+        (
+            "at a corner",
+            [-1_048_576, -1_048_576, 1_048_576, 1_048_576],
+            [1_048_576, -1_048_576, 1_048_576, 1_048_576],
+            1_048_576,
+            1_048_576,
+        ),
+        (
+            "near a corner",
+            [-1_048_576, -1_048_576, 1_048_576, 1_048_575],
+            [1_048_573, -1_048_576, 1_048_576, 1_048_576],
+            1_048_576,
+            1_048_575,
+        ),
+        (
+            "near the opposite corner",
+            [-1_048_576, -1_048_575, 1_048_576, 1_048_576],
+            [-1_048_576, -1_048_576, -1_048_573, 1_048_576],
+            -1_048_576,
+            -1_048_575,
+        ),
+        (
+            "near the middle",
+            [-1_048_576, 1_048_576, 1_048_576, -1_048_575],
+            [-1_048_575, -1_048_576, 1_048_576, 1_048_576],
+            1,
+            0,
+        ),
+    ] {
+        let s = segment(&rt, first);
+        let t = segment(&rt, second);
+        let c = crossing(&s, &t).expect(&rt, "the two cross");
+        assert_eq!(rt; pixel(&c), Point { x, y }, "{way}");
+    }
+}
