@@ -28,17 +28,12 @@ pub(crate) struct Draws {
 }
 
 impl Draws {
-    ghost use Rattle.std.specs.Prelude.{IfSome};
-    ghost use Rattle.grid_core.specs.Segment.{IsSegment};
-
     pub(crate) fn start() -> Draws {
         Draws { last: 1 }
     }
 
     /// The next segment, of four numbers; none where its ends are equal.
-    pub(crate) fn segment(&mut self, profile: &Profile, length: Length) -> Option<Ur>
-        ensures { IfSome result (IsSegment profile.now.bound) }
-    {
+    pub(crate) fn segment(&mut self, profile: &Profile, length: Length) -> Option<Ur> {
         let (a, b, c, d) = (self.next(), self.next(), self.next(), self.next());
         let (p, q) = match length {
             Length::Long => (anywhere(a, b), anywhere(c, d)),

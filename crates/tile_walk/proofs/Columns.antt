@@ -2,8 +2,8 @@
 -- order along the segment and are those that it meets, so they are that part of the whole list; and
 -- the list up to a column is the list before it, and then the column.
 
-use Rattle.std.proofs.Common.{◌≡◌, refl, ap, sym, subst, ◌∙◌, ℕ, zero, suc, ◌+◌, ◌<◌, ◌≤◌, arith, ⊎_elim}
-use Rattle.std.proofs.Common.{Bool, true, false, not, ◌↔◌, IsTrue, List, [], ◌∷◌, ◌++◌, map, filter, length, Contains, slice_index_or}
+use Rattle.std.proofs.Common.{◌≡◌, refl, ap, sym, subst, ◌∙◌, ℕ, zero, suc, ◌+◌, ◌<◌, arith}
+use Rattle.std.proofs.Common.{true, false, not, ◌↔◌, IsTrue, List, [], ◌∷◌, ◌++◌, map, filter, Contains}
 use Rattle.std.proofs.Common.{Ordering, Less, Equal, Greater, append_assoc}
 use Rattle.std.specs.Prelude.{ℤ, pos, negsuc, ◌+ℤ◌, ◌-ℤ◌, ◌≤ℤ◌, ◌<ℤ◌, int_lt, if◌then◌else◌}
 use Rattle.std.specs.Cmp.{int_cmp_is}
@@ -11,7 +11,7 @@ use Rattle.std.specs.Int.{int_gap}
 use Rattle.std.specs.List.{AllByRecursion, range_with_len}
 use Rattle.std.specs.List.Sorted.{IsStrictlySortedBy}
 use Rattle.std.specs.Ordering.{int_cmp, ordering_then, MatchOrdering}
-use Rattle.std.proofs.lemmas.Bool.{false_from_ne_true, not-true}
+use Rattle.std.proofs.lemmas.Bool.{not-true}
 use Rattle.std.proofs.lemmas.Cmp.{int_cmp_total, int_ranked, tied_itself}
 use Rattle.std.proofs.lemmas.List.FromFn.{length-map-range_with_len, get_or-map-range_with_len}
 use Rattle.std.proofs.lemmas.List.FromFn.{map-range_with_len_more}

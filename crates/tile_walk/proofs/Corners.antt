@@ -1,23 +1,20 @@
 -- When a segment meets a tile, told by heights on the two borders of its column: the tests of
 -- corners of `pixel_test`, over the box of a tile.
 
-use Rattle.std.proofs.Common.{◌≡◌, refl, sym, ap, subst, ◌∙◌, arith, [], ◌∷◌, Bool, true, false, not, ◌&&◌, ◌↔◌, IsTrue}
-use Rattle.std.proofs.Common.{Less, ⊎_elim, inl, inr}
-use Rattle.std.specs.Prelude.{ℕ, ◌<◌, ℤ, pos, ◌+ℤ◌, ◌-ℤ◌, ◌*ℤ◌, ◌≤ℤ◌, ◌<ℤ◌, ◌⊎◌, int_lt, int_le}
+use Rattle.std.proofs.Common.{◌≡◌, refl, sym, ap, ◌∙◌, arith, [], ◌∷◌, Bool, true, not, ◌&&◌, ◌↔◌, IsTrue}
+use Rattle.std.proofs.Common.{Less, ⊎_elim}
+use Rattle.std.specs.Prelude.{◌<◌, ℤ, pos, ◌+ℤ◌, ◌-ℤ◌, ◌*ℤ◌, ◌≤ℤ◌, ◌<ℤ◌, int_lt, int_le}
 use Rattle.std.proofs.lemmas.Bool.{and_parts, and_from, and_left, and_right}
-use Rattle.std.proofs.lemmas.Int.{ints}
-use Rattle.grid_core.specs.declared.pixel_box.PixelBox.{PixelBox}
 use Rattle.grid_core.specs.declared.tile.TileId.{TileId}
 use Rattle.grid_core.specs.Profile.{Sizes}
 use Rattle.grid_core.specs.Segment.{Segment, direction}
 use Rattle.grid_core.specs.Vector.{point_cmp}
 use Rattle.grid_core.specs.Tiles.{tile_box, meets_tile}
-use Rattle.grid_core.proofs.Signed.{signed, same_lt, same_le, le-not_lt, lt_true, lt_false, le_true, from_lt_true, from_lt_false, from_le_true}
+use Rattle.grid_core.proofs.Signed.{signed, same_lt, le-not_lt, lt_true, lt_false, le_true, from_lt_true, from_le_true}
 use Rattle.grid_core.proofs.Quotients.{times_more}
 use Rattle.grid_core.proofs.Ring.{int_lt_or_le}
-use Rattle.grid_core.proofs.Order.{point_less}
 use Rattle.grid_core.proofs.Polynomial.{Expr, V, K, ◌⊕◌, ◌⊖◌, ◌⊗◌, same_polynomial}
-use Rattle.pixel_test.specs.Corners.{overlaps_of, straddles_of, is_left_of, is_right_of, corner_side_of, rises_of}
+use Rattle.pixel_test.specs.Corners.{overlaps_of, straddles_of, is_left_of, is_right_of, corner_side_of}
 use Rattle.pixel_test.specs.Corners.{straddles_rising_of, straddles_falling_of}
 use Rattle.pixel_test.specs.Corners.{upper_left_of, upper_right_of, lower_left_of, lower_right_of}
 use Rattle.pixel_test.proofs.CornerTest.{corner_test}

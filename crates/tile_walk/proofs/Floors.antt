@@ -2,7 +2,7 @@
 -- number, so that the whole parts are the quotient that is rounded down.
 
 use Rattle.std.proofs.Common.{◌≡◌, subst, arith}
-use Rattle.std.specs.Prelude.{ℤ, pos, ◌+ℤ◌, ◌-ℤ◌, ◌*ℤ◌, ◌≤ℤ◌, ◌<ℤ◌, ◌⊎◌}
+use Rattle.std.specs.Prelude.{ℤ, pos, ◌+ℤ◌, ◌-ℤ◌, ◌*ℤ◌, ◌≤ℤ◌, ◌<ℤ◌}
 use Rattle.std.proofs.Common.{⊎_elim}
 use Rattle.std.specs.Int.{int_div_euclid}
 use Rattle.grid_core.proofs.Signed.{signed}
@@ -46,22 +46,6 @@ module _ {part number whole rest : ℤ} (split : IsSplit part number whole rest)
       let more = int_mul-le_left part (whole +ℤ pos 1) (j +ℤ pos 1)
       (omega (arith, signed, split.low, split.high)) (omega (arith, signed, h)) in
       omega (arith, signed, split.whole_and_rest, split.high, times_more part whole, more)
-
-  -- where there is no rest, j whole parts are less than the number exactly where j is less than the quotient
-  pub fits_below : rest ≡ pos 0 → j <ℤ whole → (part *ℤ j) <ℤ number
-  fits_below e h =
-      let less = int_mul-le_left part (j +ℤ pos 1) whole (omega (arith, signed, split.low, split.high))
-      (omega (arith, signed, h)) in
-      omega (arith, signed, split.whole_and_rest, split.low, split.high, times_more part j, less, e)
-
-  pub less_than : rest ≡ pos 0 → (part *ℤ j) <ℤ number → j <ℤ whole
-  less_than e h =
-      ⊎_elim (λ l. l)
-      (λ (l : whole ≤ℤ j).
-      absurd
-      (let more = int_mul-le_left part whole j (omega (arith, signed, split.low, split.high)) l in
-      omega (arith, signed, split.whole_and_rest, more, h, e)))
-      (int_lt_or_le j whole)
 
 -- the quotient that is rounded down, and what is left
 pub split_by_quotient : (part number : ℤ) → pos 0 <ℤ part

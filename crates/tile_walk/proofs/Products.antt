@@ -1,6 +1,6 @@
 -- Products of 64 bits that fit, with no trace of their bits.
 
-use Rattle.std.proofs.Common.{◌≡◌, refl, ap, ◌∙◌, ℕ, ◌*◌, ◌<◌, ◌≤◌, ◌^◌, ◌+◌, arith, w64, SFits, to_z, of_z, to_z-of_z}
+use Rattle.std.proofs.Common.{◌≡◌, refl, ap, ◌∙◌, ℕ, ◌<◌, ◌≤◌, ◌^◌, ◌+◌, arith, w64, SFits, to_z, of_z, to_z-of_z}
 use Rattle.std.specs.Prelude.{ℤ, pos, ◌*ℤ◌, ◌+ℤ◌, ◌-ℤ◌, ◌<ℤ◌, unsigned_abs}
 use Rattle.std.specs.Int.{int_div_euclid}
 use Rattle.grid_core.proofs.Signed.{signed, product_within, fits_by_size, size_between}

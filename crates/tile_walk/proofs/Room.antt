@@ -1,11 +1,10 @@
 -- The room that a walk needs. From entry to exit the rows only go on towards the row of q, and never
 -- past it, so that what a column takes and what is left after it is at most what was left before.
 
-use Rattle.std.proofs.Common.{◌≡◌, refl, sym, subst, ℕ, ◌+◌, ◌<◌, ◌≤◌, ◌^◌, arith, ⊎_elim, Bool, true, false, Less}
-use Rattle.std.specs.Prelude.{ℤ, pos, negsuc, ◌+ℤ◌, ◌-ℤ◌, ◌*ℤ◌, ◌≤ℤ◌, ◌<ℤ◌, ◌⊎◌, unsigned_abs, if◌then◌else◌, not, ◌&&◌}
+use Rattle.std.proofs.Common.{◌≡◌, refl, sym, subst, ◌+◌, ◌<◌, ◌≤◌, ◌^◌, arith, ⊎_elim, Bool, true, false, Less}
+use Rattle.std.specs.Prelude.{ℤ, pos, negsuc, ◌+ℤ◌, ◌-ℤ◌, ◌*ℤ◌, ◌≤ℤ◌, ◌<ℤ◌, unsigned_abs, if◌then◌else◌, not, ◌&&◌}
 use Rattle.std.specs.Int.{int_gap, int_div_euclid}
 use Rattle.std.specs.Ordering.{int_eq}
-use Rattle.grid_core.specs.declared.tile.TileId.{TileId}
 use Rattle.grid_core.specs.Profile.{Sizes}
 use Rattle.grid_core.specs.Vector.{point_cmp}
 use Rattle.grid_core.specs.Segment.{Segment, direction}
@@ -14,8 +13,7 @@ use Rattle.grid_core.proofs.Quotients.{floor_le, floor_ge}
 use Rattle.grid_core.proofs.Ring.{int_mul_nonneg, int_mul_nonpos_nonneg, int_mul_comm}
 use Rattle.grid_core.proofs.Signed.{signed, size_between}
 use Rattle.tile_law.proofs.JoinedLists.{int_gap_is}
-use Rattle.tile_walk.specs.declared.border.Border.{Border}
-use Rattle.tile_walk.specs.Borders.{tile_height, height_at, IsBorder, IsEntry}
+use Rattle.tile_walk.specs.Borders.{IsBorder, IsEntry}
 use Rattle.tile_walk.specs.Columns.{rows_from, most_tiles}
 use Rattle.tile_walk.specs.Steps.{exit_of}
 use Rattle.tile_walk.proofs.Floors.{fits, at_most, at_least, too_many}

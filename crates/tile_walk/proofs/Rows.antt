@@ -2,12 +2,11 @@
 -- the row in which it leaves it. It enters the first column in the row of p, and each other one in the
 -- row in which its line stands on the border before it; it leaves the last one in the row of q.
 
-use Rattle.std.proofs.Common.{◌≡◌, refl, sym, subst, arith, [], ◌∷◌, ◌↔◌, IsTrue, Less, ⊎_elim, inl, inr}
-use Rattle.std.specs.Prelude.{ℕ, ◌<◌, ℤ, pos, ◌+ℤ◌, ◌-ℤ◌, ◌*ℤ◌, ◌≤ℤ◌, ◌<ℤ◌, ◌⊎◌}
+use Rattle.std.proofs.Common.{◌≡◌, arith, ◌↔◌, IsTrue, Less, ⊎_elim}
+use Rattle.std.specs.Prelude.{◌<◌, ℤ, pos, ◌+ℤ◌, ◌-ℤ◌, ◌*ℤ◌, ◌≤ℤ◌, ◌<ℤ◌, ◌⊎◌}
 use Rattle.std.specs.Int.{int_div_euclid}
-use Rattle.grid_core.specs.declared.tile.TileId.{TileId}
 use Rattle.grid_core.specs.Profile.{Sizes}
-use Rattle.grid_core.specs.Segment.{Segment, direction}
+use Rattle.grid_core.specs.Segment.{Segment}
 use Rattle.grid_core.specs.Vector.{point_cmp}
 use Rattle.grid_core.specs.Tiles.{tile_of, meets_tile}
 use Rattle.grid_core.proofs.Signed.{signed}
@@ -17,7 +16,7 @@ use Rattle.tile_walk.proofs.Floors.{fits, at_most, at_least, too_many, split_by_
 use Rattle.tile_walk.proofs.Lines.{IsRising, IsFalling}
 use Rattle.tile_walk.proofs.Lines.{rising_left_of_p, rising_right_of_p, rising_left_of_q, rising_right_of_q}
 use Rattle.tile_walk.proofs.Lines.{falling_left_of_p, falling_right_of_p, falling_left_of_q, falling_right_of_q}
-use Rattle.tile_walk.proofs.Corners.{Overlaps, IsMetRising, IsMetFalling, met_rising, met_falling}
+use Rattle.tile_walk.proofs.Corners.{Overlaps, met_rising, met_falling}
 
 -- the row in which a rising segment leaves column i: the one below the height at the border behind it
 abbrev pub IsUpperExit : Sizes → Segment → ℤ → ℤ → Type 0

@@ -1,33 +1,27 @@
 -- The walk, column after column: what is pushed is the part of the list along the segment, and the rows
 -- and columns that are left never grow beyond the room that was asked for.
 
-use Rattle.std.proofs.Common.{◌≡◌, refl, ap, sym, subst, ◌∙◌, ℕ, ◌+◌, ◌<◌, ◌≤◌, ◌^◌, arith, ⊎_elim, inl, inr}
-use Rattle.std.proofs.Common.{Bool, true, false, true≢false, ◌↔◌, IsTrue, List, [], ◌∷◌, ◌++◌, Contains, append_assoc, Less}
-use Rattle.std.specs.Prelude.{ℤ, pos, negsuc, ◌+ℤ◌, ◌-ℤ◌, ◌*ℤ◌, ◌≤ℤ◌, ◌<ℤ◌, ◌⊎◌, int_lt, unsigned_abs, if◌then◌else◌, not, ◌&&◌}
-use Rattle.std.specs.Int.{int_gap}
+use Rattle.std.proofs.Common.{◌≡◌, refl, ap, sym, subst, ◌∙◌, ◌<◌, arith, ⊎_elim, inl, inr}
+use Rattle.std.proofs.Common.{Bool, true, false, true≢false, IsTrue, [], ◌∷◌, ◌++◌, Contains, Less}
+use Rattle.std.specs.Prelude.{ℤ, pos, ◌+ℤ◌, ◌-ℤ◌, ◌*ℤ◌, ◌≤ℤ◌, ◌<ℤ◌, ◌⊎◌, if◌then◌else◌, not, ◌&&◌}
 use Rattle.std.specs.Ordering.{int_eq}
-use Rattle.std.specs.List.Sorted.{IsStrictlySortedBy}
 use Rattle.std.proofs.lemmas.Bool.{cases_Bool}
 use Rattle.std.proofs.lemmas.Bool.Decides.{Decides-int_eq}
 use Rattle.grid_core.specs.declared.tile.TileId.{TileId}
 use Rattle.grid_core.specs.Profile.{Sizes}
 use Rattle.grid_core.specs.Vector.{point_cmp}
-use Rattle.grid_core.specs.Segment.{Segment, direction, IsSegment}
-use Rattle.grid_core.specs.Tiles.{along, along_tile_cmp, falls, meets_tile, tile_of}
+use Rattle.grid_core.specs.Segment.{Segment}
+use Rattle.grid_core.specs.Tiles.{along, falls, meets_tile, tile_of}
 use Rattle.grid_core.proofs.Order.{point_less}
-use Rattle.grid_core.proofs.Ring.{int_mul_nonneg, int_mul-le_left, int_lt_or_le}
+use Rattle.grid_core.proofs.Ring.{int_lt_or_le}
 use Rattle.grid_core.proofs.Polynomial.{V, K, ◌⊖◌, ◌⊗◌, same_polynomial}
 use Rattle.grid_core.proofs.Signed.{signed, from_lt_true, from_lt_false}
-use Rattle.tile_law.proofs.JoinedLists.{int_gap_is}
-use Rattle.tile_walk.specs.declared.border.Border.{Border}
-use Rattle.tile_walk.specs.Borders.{tile_height, height_at, IsSplit, IsBorder, IsEntry}
-use Rattle.tile_walk.specs.Columns.{column_from, column_up, column_down, rows_from, most_tiles, before}
+use Rattle.tile_walk.specs.Borders.{tile_height, IsBorder, IsEntry}
+use Rattle.tile_walk.specs.Columns.{column_from, column_up, column_down, before}
 use Rattle.tile_walk.specs.Steps.{exit_of}
-use Rattle.tile_walk.proofs.Columns.{IsInRows, contains_up, contains_down, sorted_up, sorted_down, column_next}
-use Rattle.tile_walk.proofs.Floors.{fits, at_most, at_least, too_many}
-use Rattle.tile_walk.proofs.Lines.{IsRising, IsFalling, next_height}
-use Rattle.tile_walk.proofs.Rows.{IsUpperExit, IsLowerExit, rising_rows, falling_rows, split_of}
-use Rattle.tile_walk.proofs.Rows.{rising_from_p, rising_to_q, falling_from_p, falling_to_q}
+use Rattle.tile_walk.proofs.Columns.{contains_up, contains_down, sorted_up, sorted_down, column_next}
+use Rattle.tile_walk.proofs.Lines.{IsRising, IsFalling}
+use Rattle.tile_walk.proofs.Rows.{IsUpperExit, IsLowerExit, rising_rows, falling_rows}
 
 -- ---- up or down
 

@@ -1,7 +1,7 @@
 -- The state of the walk before each column: what was pushed, where the segment enters the column, where
 -- its line passes the border behind it, and the room that is left. It begins, and goes on.
 
-use Rattle.std.proofs.Common.{◌≡◌, refl, ap, sym, subst, ◌∙◌, ℕ, ◌+◌, ◌<◌, ◌≤◌, arith, List, [], ◌∷◌, ◌++◌, append_assoc, append-nil, Less, inl, ⊎_elim}
+use Rattle.std.proofs.Common.{◌≡◌, refl, ap, sym, ◌∙◌, ℕ, ◌+◌, ◌<◌, ◌≤◌, arith, List, ◌++◌, append_assoc, append-nil, Less, inl, ⊎_elim}
 use Rattle.std.proofs.Common.{Bool}
 use Rattle.std.specs.Prelude.{ℤ, pos, ◌^◌, ◌+ℤ◌, ◌*ℤ◌, ◌≤ℤ◌, ◌<ℤ◌, unsigned_abs}
 use Rattle.grid_core.specs.declared.tile.TileId.{TileId}
@@ -14,14 +14,13 @@ use Rattle.grid_core.proofs.Quotients.{floor_rises}
 use Rattle.grid_core.proofs.Ring.{int_lt_or_le}
 use Rattle.grid_core.proofs.Signed.{signed}
 use Rattle.tile_walk.specs.declared.border.Rise.{Rise}
-use Rattle.tile_walk.specs.Borders.{tile_height, height_at, rise_of, IsSplit, IsBorder, IsEntry}
+use Rattle.tile_walk.specs.Borders.{height_at, IsSplit, IsBorder, IsEntry}
 use Rattle.tile_walk.specs.Columns.{column_from, rows_from, most_tiles, before}
 use Rattle.tile_walk.specs.Steps.{exit_of, IsRise}
 use Rattle.tile_walk.proofs.Columns.{none_before, all_before}
 use Rattle.tile_walk.proofs.Floors.{same_split}
 use Rattle.tile_walk.proofs.Lines.{next_height}
 use Rattle.tile_walk.proofs.Room.{next_room, small_row, small_exit}
-use Rattle.tile_walk.proofs.Rows.{split_of}
 use Rattle.tile_walk.proofs.Walked.{next_entry, next_column, last_column}
 
 -- the columns before i are pushed

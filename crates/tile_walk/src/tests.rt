@@ -1,5 +1,3 @@
-ghost use Rattle.grid_core.specs.Segment.{IsSegment};
-
 use crate::{push_tiles, tiles};
 use grid_core::{Name, Point, Profile, TileId, Ur};
 use std::alloc::{AllocError, Global};
@@ -8,9 +6,7 @@ use std::process::Abort;
 use std::test::Fail;
 
 /// The segment between two points, given as four coordinates.
-fn segment(rt: &impl Abort, ends: [i64; 4]) -> Ur
-    ensures { IsSegment 1048576 result }
-{
+fn segment(rt: &impl Abort, ends: [i64; 4]) -> Ur {
     let [a, b, c, d] = ends;
     let name = Name::new(1, 1).expect(rt, "editor 1, serial 1");
     let p = Point { x: a, y: b };

@@ -2,9 +2,10 @@
 
 ghost use Rattle.std.specs.Prelude.{◌≡◌, ◌+◌, ◌≤◌, ◌^◌, ◌++◌, pos, ◌<ℤ◌, ◌≤ℤ◌, ◌+ℤ◌, ◌-ℤ◌};
 ghost use Rattle.std.specs.Prelude.{vec_len, vec_capacity};
-ghost use Rattle.std.specs.Prelude.{OnOk, OnErr, IfOk};
-ghost use Rattle.std.specs.Int.{int_gap};
+ghost use Rattle.std.specs.Prelude.{OnOk, OnErr, IfOk, unsigned_abs};
+ghost use Rattle.std.specs.Int.{int_gap, int_div_euclid};
 ghost use Rattle.grid_core.specs.Profile.{IsProfile};
+ghost use Rattle.grid_core.specs.Vector.{IsWithin};
 ghost use Rattle.grid_core.specs.Segment.{IsSegment};
 ghost use Rattle.grid_core.specs.Tiles.{along, falls, tile_of};
 ghost use Rattle.tile_walk.specs.Columns.{column_up, column_down, column_from, rows_from};
@@ -12,15 +13,13 @@ ghost use Rattle.tile_walk.specs.Columns.{most_tiles, before};
 ghost use Rattle.tile_walk.specs.Borders.{IsEntry};
 
 use crate::border::Rise;
-use grid_core::{Memory, Profile, TileId, Ur, tile_of};
+use grid_core::{Memory, Point, Profile, TileId, Ur};
 use std::alloc::Global;
 
 /// The tiles that the segment meets, in the order in which it meets them from p to q: by column, and
 /// in one column by row, upwards, or downwards where the segment falls.
-/// The segment lies within the profile's bound.
 #[inline]
 pub fn tiles(alloc: Global, s: &Ur, profile: &Profile) -> Result<Vec<TileId>, Memory>
-    requires { IsSegment profile.now.bound s.now }
     ensures { IfOk result (λ ts. ts.items ≡ along profile.now s.now) }
 {
     let mut met = Vec::new(alloc);
@@ -32,13 +31,12 @@ pub fn tiles(alloc: Global, s: &Ur, profile: &Profile) -> Result<Vec<TileId>, Me
 /// who ask for the tiles of many segments, and use one list again and again.
 /// Memory is asked for once, at the start. After `Memory` the list is as before.
 pub fn push_tiles(out: &mut Vec<TileId>, s: &Ur, profile: &Profile) -> Result<(), Memory>
-    requires { IsSegment profile.now.bound s.now }
     ensures whole { OnOk result (out.new.items ≡ out.old.items ++ along profile.now s.now) }
     ensures memory { OnErr result (out.new.items ≡ out.old.items) }
 {
     let _side = profile.side();
-    let first = tile_of(profile, s.p());
-    let last = tile_of(profile, s.q());
+    let first = tile_at(profile, s.p());
+    let last = tile_at(profile, s.q());
     out.reserve(most_tiles(first, last))?;
     if first.i == last.i {
         push_column(out, is_falling(s), last.i, first.j, last.j);
@@ -47,6 +45,29 @@ pub fn push_tiles(out: &mut Vec<TileId>, s: &Ur, profile: &Profile) -> Result<()
     let entry = push_columns(out, s, profile, first, last);
     push_column(out, is_falling(s), last.i, entry, last.j);
     Ok(())
+}
+
+/// The tile in which a pixel lies, of coordinates up to 2^30 in size.
+#[inline(always)]
+fn tile_at(profile: &Profile, at: Point) -> TileId
+    requires { IsWithin (2 ^ 30) at }
+    ensures { result ≡ tile_of profile.now at }
+{
+    let side = profile.side();
+    TileId {
+        i: index_of(at.x, side),
+        j: index_of(at.y, side),
+    }
+}
+
+/// The column, or the row, of tiles in which a coordinate up to 2^30 in size lies.
+#[inline(always)]
+fn index_of(coordinate: i64, side: i64) -> i32
+    requires positive { pos 0 <ℤ side }
+    requires within { unsigned_abs coordinate ≤ 2 ^ 30 }
+    ensures { result ≡ int_div_euclid coordinate side }
+{
+    coordinate.div_euclid(side) as i32
 }
 
 /// Puts the tiles of the columns before the last one to the end of a list that has room for all tiles.
@@ -60,7 +81,7 @@ fn push_columns(
     last: TileId,
 ) -> i32
     requires sizes { IsProfile profile.now }
-    requires segment { IsSegment profile.now.bound s.now }
+    requires segment { IsSegment (2 ^ 30) s.now }
     requires first_is { first ≡ tile_of profile.now s.now.p }
     requires last_is { last ≡ tile_of profile.now s.now.q }
     requires several { first.i <ℤ last.i }

@@ -1,5 +1,5 @@
-use Rattle.std.proofs.Common.{rules, arith, to_z-of_z, SFits, w64, ◌≤◌, ◌^◌, ◌+◌}
-use Rattle.std.specs.Prelude.{ℤ, pos, ◌+ℤ◌, ◌*ℤ◌}
+use Rattle.std.proofs.Common.{rules, arith, to_z-of_z, SFits, w64, ◌^◌, ◌+◌}
+use Rattle.std.specs.Prelude.{pos, ◌+ℤ◌, ◌*ℤ◌}
 use Rattle.grid_core.proofs.Signed.{fits_by_size, sum_within}
 use Rattle.tile_walk.proofs.Products.{height_is}
 use Rattle.tile_walk.proofs.border.height.Goals as goal

@@ -1,4 +1,4 @@
-use Rattle.std.proofs.Common.{◌≡◌, ◌≤◌, ◌^◌, ◌+◌, arith, ◌*ℤ◌, unsigned_abs}
+use Rattle.std.proofs.Common.{arith}
 use Rattle.tile_walk.proofs.Products.{made, product_size}
 use Rattle.tile_walk.proofs.border.product.Goals as goal
 

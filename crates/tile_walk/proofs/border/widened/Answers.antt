@@ -1,4 +1,4 @@
-use Rattle.std.proofs.Common.{◌≡◌, ◌≤◌, ◌^◌, ◌+◌, arith, ◌*ℤ◌, unsigned_abs}
+use Rattle.std.proofs.Common.{arith}
 use Rattle.tile_walk.proofs.Products.{made, widened_within}
 use Rattle.tile_walk.proofs.border.widened.Goals as goal
 

@@ -1,4 +1,4 @@
-use Rattle.std.proofs.Common.{rules, ◌≡◌, ◌+◌, ◌≤◌, arith, subst, sym, ap, true, false, Bool, ℕ, vec_len, vec_capacity, SFits, w32, to_z-of_z}
+use Rattle.std.proofs.Common.{◌≡◌, arith, ap, true, false, SFits, w32, to_z-of_z}
 use Rattle.tile_walk.specs.Columns.{rows_from}
 use Rattle.tile_walk.proofs.walk.push_column.Goals as goal
 

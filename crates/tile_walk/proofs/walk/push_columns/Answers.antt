@@ -1,4 +1,4 @@
-use Rattle.std.proofs.Common.{rules, ◌≡◌, refl, ap, sym, subst, ◌∙◌, ◌++◌, ◌+◌, ◌≤◌, ◌^◌, arith, Bool, vec_len, vec_capacity}
+use Rattle.std.proofs.Common.{rules, ◌≡◌, ap, sym, subst, ◌∙◌, ◌++◌, ◌+◌, ◌≤◌, ◌^◌, arith, Bool, vec_len, vec_capacity}
 use Rattle.std.proofs.Common.{w32, w64, SFits, to_z, of_z, to_z-of_z}
 use Rattle.std.specs.Prelude.{ℤ, pos, ◌+ℤ◌, ◌-ℤ◌, ◌*ℤ◌, ◌<ℤ◌, ◌≤ℤ◌, unsigned_abs}
 use Rattle.std.proofs.lemmas.Int.{ints}

@@ -2,7 +2,6 @@ use Rattle.std.proofs.Common.{◌≡◌, ◌+◌, ◌++◌, map, vec_len, vec_ca
 use Rattle.std.specs.Prelude.{pos, ◌+ℤ◌, ◌-ℤ◌}
 use Rattle.std.specs.Int.{int_gap}
 use Rattle.std.specs.List.{range_with_len}
-use Rattle.grid_core.specs.declared.tile.TileId.{TileId}
 use Rattle.tile_walk.proofs.walk.push_down.Given as goal
 
 -- so many rows are done

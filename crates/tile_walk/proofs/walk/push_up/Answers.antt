@@ -1,4 +1,4 @@
-use Rattle.std.proofs.Common.{rules, ◌≡◌, ◌∙◌, ◌+◌, arith}
+use Rattle.std.proofs.Common.{◌∙◌, arith}
 use Rattle.tile_walk.proofs.Columns.{made_more}
 use Rattle.tile_walk.proofs.walk.push_up.Goals as goal
 

@@ -1,8 +1,7 @@
 use Rattle.std.proofs.Common.{◌≡◌, ◌+◌, ◌++◌, map, vec_len, vec_capacity}
-use Rattle.std.specs.Prelude.{pos, ◌+ℤ◌, ◌-ℤ◌}
+use Rattle.std.specs.Prelude.{pos, ◌+ℤ◌}
 use Rattle.std.specs.Int.{int_gap}
 use Rattle.std.specs.List.{range_with_len}
-use Rattle.grid_core.specs.declared.tile.TileId.{TileId}
 use Rattle.tile_walk.proofs.walk.push_up.Given as goal
 
 -- so many rows are done

@@ -1,7 +1,6 @@
 use Rattle.std.proofs.Common.{rules, arith, to_z-of_z, SFits, w64, ◌≤◌, ◌^◌, ◌+◌}
 use Rattle.std.specs.Prelude.{ℤ, pos, ◌+ℤ◌, ◌-ℤ◌, ◌<ℤ◌, ◌≤ℤ◌, unsigned_abs}
 use Rattle.grid_core.proofs.Signed.{signed, from_lt_true, from_lt_false, fits_by_size, size_between, sum_within}
-use Rattle.tile_walk.specs.Borders.{IsSplit}
 use Rattle.tile_walk.proofs.Floors.{sum_below, sum_above}
 use Rattle.tile_walk.proofs.border.Rise.next_border.Goals as goal
 

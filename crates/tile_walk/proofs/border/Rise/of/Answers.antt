@@ -1,5 +1,5 @@
 use Rattle.std.proofs.Common.{rules, ◌≡◌, ap, arith, to_z-of_z, SFits, w64}
-use Rattle.std.specs.Prelude.{ℤ, pos, ◌-ℤ◌, ◌<ℤ◌}
+use Rattle.std.specs.Prelude.{◌-ℤ◌}
 use Rattle.grid_core.proofs.Signed.{signed}
 use Rattle.tile_walk.proofs.Products.{height_positive}
 use Rattle.tile_walk.proofs.border.Rise.of.Goals as goal
