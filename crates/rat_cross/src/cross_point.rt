@@ -136,7 +136,7 @@ fn narrow_rounded(n: i64, d: i64) -> i64
     narrow_sum(narrow_doubled(n), d).div_euclid(narrow_doubled(d))
 }
 
-/// `a + b`, of numbers up to 2^62 in size.
+/// `a + b`, of numbers up to 2^62 and 2^61 in size.
 #[inline(always)]
 fn narrow_sum(a: i64, b: i64) -> i64
     requires left { unsigned_abs a ≤ 2 ^ 62 }

@@ -43,7 +43,7 @@ fn worked_pixels(rt: HostRuntime) {
     }
 }
 
-/// Near a corner of the range the numerators are greater than 2^61, and near its middle they aren't.
+/// Near a corner of the range numerators are greater than 2^61, and near its middle they aren't.
 #[test]
 fn pixels_over_the_whole_range(rt: HostRuntime) {
     for (way, first, second, x, y) in [
