@@ -5,3 +5,5 @@ pub mod Spans
 pub mod Rebasing
 pub mod Histories
 pub mod Bounds
+pub mod KeyLaws
+pub mod Opened

@@ -13,10 +13,18 @@
 #![tactic(auto)]
 
 mod change;
+mod entry;
+mod keys;
 mod laws;
+mod looked;
+mod read;
+mod version;
 
 pub use change::{Change, Edit};
 pub use laws::changes_are_rebased;
+pub use looked::{Look, Looked};
+pub use read::RouteFault;
+pub use version::Version;
 
 #[cfg(test)]
 mod tests;
