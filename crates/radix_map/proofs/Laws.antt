@@ -1,7 +1,7 @@
 -- What a crate above may cite of maps as lists of entries by rising key: keys still rise after edits,
 -- and the value at a key after an edit or after many. The other lemma files of this crate are about
 -- the tree, and change with it.
-use Rattle.std.proofs.Common.{◌≡◌, ℕ, ◌<◌, List, [], ◌∷◌, cond, is_eq, nat_cmp, option_map, Option, Some, None}
+use Rattle.std.proofs.Common.{◌≡◌, ℕ, ◌<◌, List, [], ◌∷◌, cond, is_eq, nat_cmp, option_map, Option, Some, None, arith}
 use Rattle.std.specs.Arc.{arc_value}
 use Rattle.std.specs.declared.sync.Arc.{Arc}
 use Rattle.radix_map.specs.Entries.{keys_end, value_at, with_key, without_key, edited, edited_all, Rises, KeysFit}
@@ -13,11 +13,11 @@ use Rattle.radix_map.proofs.Values.{value_edited}
 
 pub with_rises : {V : Type 0} (es : List (ℕ × V)) (k : ℕ) (v : V) → k < keys_end → Rises 0 keys_end es
     → Rises 0 keys_end (with_key es k v)
-with_rises es k v below h = edited_rises keys_end k (Some v) es below h
+with_rises es k v below h = edited_rises 0 keys_end k (Some v) es (omega arith) below h
 
 pub without_rises : {V : Type 0} (es : List (ℕ × V)) (k : ℕ) → k < keys_end → Rises 0 keys_end es
     → Rises 0 keys_end (without_key es k)
-without_rises es k below h = edited_rises keys_end k None es below h
+without_rises es k below h = edited_rises 0 keys_end k None es (omega arith) below h
 
 pub edited_all_rises : {V Z : Type 0} (es : List (ℕ × V)) (edits : List (ℕ × Option (Arc V Z))) → KeysFit edits
     → Rises 0 keys_end es → Rises 0 keys_end (edited_all es edits)
@@ -25,7 +25,7 @@ unfolding edited_all
 edited_all_rises es [] fit h = h
 edited_all_rises es (e ∷ edits) fit h =
     edited_all_rises (edited es e.0 (option_map arc_value e.1)) edits fit.1
-    (edited_rises keys_end e.0 (option_map arc_value e.1) es fit.0 h)
+    (edited_rises 0 keys_end e.0 (option_map arc_value e.1) es (omega arith) fit.0 h)
 
 -- ---- the value at a key
 

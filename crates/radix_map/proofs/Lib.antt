@@ -1,8 +1,10 @@
 pub mod Carried
 pub mod Carrying
 pub mod Copied
+pub mod Cuts
 pub mod Digits
 pub mod Edits
+pub mod Halves
 pub mod Keys
 pub mod Laws
 pub mod Leaves

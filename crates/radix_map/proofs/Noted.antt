@@ -40,7 +40,7 @@ value_noted k a b es [] h g = refl
 value_noted k a b es (p ∷ ps) h g =
     let o = option_map arc_value p.1 in
     let l = rises_order (p.0 + 1) b ps g.1 in
-    value_noted k (p.0 + 1) b (edited es p.0 o) ps (edited_rises b p.0 o es (omega arith) h) g.1
+    value_noted k (p.0 + 1) b (edited es p.0 o) ps (edited_rises 0 b p.0 o es (omega arith) (omega arith) h) g.1
     ∙ ap (edit_or (value_at k ps)) (value_edited k p.0 b o es h)
     ∙ noted_first k b p ps (value_at k es) (is_eq (nat_cmp k p.0)) refl g.1
 

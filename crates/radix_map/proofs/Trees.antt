@@ -72,9 +72,9 @@ without_rises : {V : Type 0} (a b k : ℕ) (es : List (ℕ × V)) → Rises a b 
 without_rises a b k [] h = h
 without_rises a b k (e ∷ es) h = cond_rises (is_eq (nat_cmp k e.0)) a b e es (without_key es k) h (without_rises (e.0 + 1) b k es h.1)
 
-pub edited_rises : {V : Type 0} (b k : ℕ) (o : Option V) (es : List (ℕ × V)) → k < b → Rises 0 b es → Rises 0 b (edited es k o)
-edited_rises b k None es n h = without_rises 0 b k es h
-edited_rises b k (Some v) es n h = with_rises 0 b k v es (omega arith) n h
+pub edited_rises : {V : Type 0} (a b k : ℕ) (o : Option V) (es : List (ℕ × V)) → a ≤ k → k < b → Rises a b es → Rises a b (edited es k o)
+edited_rises a b k None es l n h = without_rises a b k es h
+edited_rises a b k (Some v) es l n h = with_rises a b k v es l n h
 
 -- ---- many edits in one slot
 
@@ -109,7 +109,7 @@ set-size [] i a = refl
 set-size (x ∷ xs) zero a = refl
 set-size (x ∷ xs) (suc i) a = ap suc (set-size xs i a)
 
-key_in_slot : (step k i : ℕ) → 0 < step → k / step % 16 ≡ i → k % (16 * step) ≡ 0 + (i * step + k % step)
+pub key_in_slot : (step k i : ℕ) → 0 < step → k / step % 16 ≡ i → k % (16 * step) ≡ 0 + (i * step + k % step)
 key_in_slot step k i p e = mod-mul k (omega arith) p ∙ ap (λ j. j * step + k % step) e ∙ omega arith
 
 joined_run : {V Z : Type 0} (step : ℕ) (ess : List (List (ℕ × V))) (i : ℕ) (edits : List (ℕ × Option (Arc V Z)))
@@ -123,7 +123,7 @@ joined_run step ess i (e ∷ edits) p h n r =
     let es = get_or ess i [] in
     let next = set ess i (edited es k o) in
     let lt = mod-lt e.0 p in
-    let rises = all_rise-set step ess i (edited es k o) h (edited_rises step k o es lt (rise_at step ess i h)) in
+    let rises = all_rise-set step ess i (edited es k o) h (edited_rises 0 step k o es (omega arith) lt (rise_at step ess i h)) in
     let size = set-size ess i (edited es k o) in
     let one = joined_edited step 0 ess i k o h n lt ∙ ap (λ j. edited (joined step 0 ess) j o) (sym (key_in_slot step e.0 i p r.0)) in
     ap (joined step 0) (sym (set-twice ess i (edited es k o) (edited_within step (edited es k o) edits)))

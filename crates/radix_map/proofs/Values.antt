@@ -96,4 +96,4 @@ pub within_rises : {V Z : Type 0} (w : ℕ) (es : List (ℕ × V)) (edits : List
     → Rises 0 w es → Rises 0 w (edited_within w es edits)
 unfolding edited_within
 within_rises w es [] p h = h
-within_rises w es (e ∷ edits) p h = let j = e.0 % w in let o = option_map arc_value e.1 in within_rises w (edited es j o) edits p (edited_rises w j o es (mod-lt e.0 p) h)
+within_rises w es (e ∷ edits) p h = let j = e.0 % w in let o = option_map arc_value e.1 in within_rises w (edited es j o) edits p (edited_rises 0 w j o es (omega arith) (mod-lt e.0 p) h)

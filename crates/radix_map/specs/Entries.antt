@@ -1,5 +1,6 @@
 -- A finite map from whole numbers as the list of its entries by rising key, and the maps of a tree's nodes.
-use Rattle.std.specs.Prelude.{◌≡◌, ℕ, ◌+◌, ◌*◌, ◌/◌, ◌%◌, ◌^◌, ◌<◌, ◌≤◌, length, drop, Option, Some, None, List, [], ◌∷◌, ◌++◌, map, take, option_map}
+use Rattle.std.specs.Prelude.{◌≡◌, ℕ, ◌+◌, ◌*◌, ◌/◌, ◌%◌, ◌^◌, ◌<◌, ◌≤◌, length, drop, Option, Some, None, List, [], ◌∷◌, ◌++◌, map, take, filter, option_map}
+use Rattle.std.specs.Bool.{nat_lt, nat_le}
 use Rattle.std.specs.Arc.{arc_value}
 use Rattle.std.specs.declared.sync.Arc.{Arc}
 use Rattle.std.specs.Ordering.{nat_cmp}
@@ -13,6 +14,14 @@ keys_end = 2 ^ 32
 -- the value at key k
 abbrev pub value_at : {V : Type 0} → ℕ → List (ℕ × V) → Option V
 value_at k es = lookup (is_at (nat_cmp k)) es
+
+-- the entries whose key is at least k
+unfoldable pub entries_from : {V : Type 0} → ℕ → List (ℕ × V) → List (ℕ × V)
+entries_from k es = filter (λ e. nat_le k e.0) es
+
+-- the entries whose key is below k
+unfoldable pub entries_below : {V : Type 0} → ℕ → List (ℕ × V) → List (ℕ × V)
+entries_below k es = filter (λ e. nat_lt e.0 k) es
 
 -- the entries with key k set to v
 abbrev pub with_key : {V : Type 0} → List (ℕ × V) → ℕ → V → List (ℕ × V)

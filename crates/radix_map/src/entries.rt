@@ -1,8 +1,9 @@
-//! A walk over the entries of a map by rising key, which visits stored nodes alone.
+//! A walk over the entries of a map by rising key, from a key on, which visits stored nodes alone.
 
-ghost use Rattle.std.specs.Prelude.{◌≡◌, ℕ, ◌+◌, ◌*◌, ◌^◌, ◌<◌, ◌≤◌, ◌∷◌, List, [], ◌++◌, MatchOption};
-ghost use Rattle.std.specs.Prelude.{IfNone, IfSome};
-ghost use Rattle.radix_map.specs.Entries.{raised, entries_behind, part, single, edited_all, Rises, keys_end};
+ghost use Rattle.std.specs.Prelude.{◌≡◌, ℕ, ◌+◌, ◌*◌, ◌%◌, ◌^◌, ◌<◌, ◌≤◌, ◌∷◌, List, [], ◌++◌};
+ghost use Rattle.std.specs.Prelude.{MatchOption, IfNone, IfSome, option_copied};
+ghost use Rattle.radix_map.specs.Entries.{raised, entries_from, entries_behind, part, single, block};
+ghost use Rattle.radix_map.specs.Entries.{edited_all, Rises, keys_end};
 ghost use Rattle.radix_map.specs.Pending.{IsPast};
 ghost use Rattle.radix_map.specs.Map.{root_entries};
 ghost use Rattle.std.specs.Iterator.{YieldsFirstBy, item_count};
@@ -10,9 +11,9 @@ ghost use Rattle.radix_map.specs.Inner.{inner_sound};
 ghost use Rattle.radix_map.specs.Walks.{root_left, root_sound, behind_first};
 
 use crate::level::{
-    Edit, Leaf, Level, Node, Node1, Node2, Node3, Node4, Node5, Node6, ROOT_SHIFT, Root,
+    Edit, Leaf, Level, Node, Node1, Node2, Node3, Node4, Node5, Node6, ROOT_SHIFT, Root, slot,
 };
-use crate::pending::set_value;
+use crate::pending::{edits_from, set_value};
 use std::cmp::Ordering;
 use std::marker::Model;
 
@@ -50,13 +51,14 @@ impl<'a, V> Model for Entries<'a, V> {
 }
 
 impl<'a, V: Drop> Entries<'a, V> {
-    pub(crate) fn of(root: &'a Root<V>, pending: &'a [Edit<V>]) -> Entries<'a, V>
+    /// The entries of the tree after the edits, from this key on.
+    pub(crate) fn of(root: &'a Root<V>, pending: &'a [Edit<V>], from: u32) -> Entries<'a, V>
         requires { Rises 0 keys_end pending.now }
-        ensures { result ≡ edited_all (root_entries root.now) pending.now }
+        ensures { result ≡ entries_from from (edited_all (root_entries root.now) pending.now) }
     {
         Entries {
-            tree: TreeEntries::of(root),
-            pending,
+            tree: TreeEntries::of(root, from),
+            pending: edits_from(pending, from),
         }
     }
 }
@@ -120,12 +122,12 @@ impl<'a, V> Model for TreeEntries<'a, V> {
 }
 
 impl<'a, V: Drop> TreeEntries<'a, V> {
-    fn of(root: &'a Root<V>) -> TreeEntries<'a, V>
-        ensures { result ≡ root_entries root.now }
+    fn of(root: &'a Root<V>, from: u32) -> TreeEntries<'a, V>
+        ensures { result ≡ entries_from from (root_entries root.now) }
     {
         TreeEntries {
             first: None,
-            walk: Walk::begin(root, 0),
+            walk: Walk::begin(root, 0, from, ROOT_SHIFT),
         }
     }
 
@@ -179,10 +181,14 @@ pub(crate) trait Walk<'a, V, L: Level<V>>: Drop {
 
     ghost sound: { Self → Type 0 };
 
-    /// A walk over all entries of the node, whose keys are counted from `base`.
-    fn begin(node: &'a L, base: u32) -> Self
-        requires { base + 16 * 2 ^ L.bits ≤ keys_end }
-        ensures left { left result ≡ raised base (L.entries node.now) }
+    /// A walk over the entries of the node, whose keys are counted from `base`: those from the key
+    /// on that the low bits of `from` are in its block.
+    fn begin(node: &'a L, base: u32, from: u32, shift: u32) -> Self
+        requires level { shift ≡ L.bits }
+        requires small { shift ≤ 28 }
+        requires fits { base + block L.bits ≤ keys_end }
+        ensures left { left result
+            ≡ raised base (entries_from (from % (block L.bits)) (L.entries node.now)) }
         ensures sound { sound result };
 
     /// The first entry that is left.
@@ -217,10 +223,10 @@ impl<'a, V: Drop> Walk<'a, V, Leaf<V>> for LeafWalk<'a, V> {
 
     ghost sound = { λ w. (w.base + 16 ≤ keys_end) × (w.at ≤ 16) };
 
-    fn begin(node: &'a Leaf<V>, base: u32) -> Self {
+    fn begin(node: &'a Leaf<V>, base: u32, from: u32, _shift: u32) -> Self {
         LeafWalk {
             leaf: node,
-            at: 0,
+            at: from & 15,
             base,
         }
     }
@@ -243,12 +249,16 @@ impl<'a, V: Drop, L: Level<V>, W: Walk<'a, V, L>> Walk<'a, V, Node<L>> for NodeW
     ghost sound = { λ w. (w.base + 16 * 2 ^ (L.bits + 4) ≤ keys_end)
         × (w.at ≤ 16) × inner_sound W.sound w.inner };
 
-    fn begin(node: &'a Node<L>, base: u32) -> Self {
+    fn begin(node: &'a Node<L>, base: u32, from: u32, shift: u32) -> Self {
+        let at = slot(from, shift);
         NodeWalk {
             node,
-            at: 0,
+            at: at + 1,
             base,
-            inner: None,
+            inner: match node.slots.get(at) {
+                Some(child) => Some(child_walk(child, base, at, from, shift)),
+                None => None,
+            },
         }
     }
 
@@ -260,7 +270,7 @@ impl<'a, V: Drop, L: Level<V>, W: Walk<'a, V, L>> Walk<'a, V, Node<L>> for NodeW
             }
             match self.node.slots.next(self.at) {
                 Some((n, child)) => {
-                    self.inner = Some(child_walk(child, self.base, n, shift));
+                    self.inner = Some(child_walk(child, self.base, n, 0, shift));
                     self.at = n + 1;
                 }
                 None => return None,
@@ -288,21 +298,23 @@ fn step_inner<'a, V, L: Level<V>, W: Walk<'a, V, L>>(
     }
 }
 
-// A walk over the child in slot `n` of a node whose keys are counted from `base`.
+// A walk over the child in slot `n` of a node whose keys are counted from `base`, from a key on.
 fn child_walk<'a, V, L: Level<V>, W: Walk<'a, V, L>>(
     child: &'a L,
     base: u32,
     n: u32,
+    from: u32,
     shift: u32,
 ) -> W
     requires level { shift ≡ L.bits + 4 }
     requires small { shift ≤ 28 }
     requires slot { n < 16 }
     requires fits { base + 16 * 2 ^ shift ≤ keys_end }
-    ensures left { W.left result ≡ raised (base + n * 2 ^ shift) (L.entries child.now) }
+    ensures left { W.left result ≡ raised (base + n * 2 ^ shift)
+        (entries_from (from % (block L.bits)) (L.entries child.now)) }
     ensures sound { W.sound result }
 {
-    W::begin(child, first_key(base, n, shift))
+    W::begin(child, first_key(base, n, shift), from, shift - 4)
 }
 
 fn first_key(base: u32, n: u32, shift: u32) -> u32

@@ -2,7 +2,8 @@
 
 ghost use Rattle.std.specs.Prelude.{◌≡◌, ◌≤◌, [], IfOk, OnOk, OnErr, option_copied, length, map};
 ghost use Rattle.std.specs.Arc.{arc_value};
-ghost use Rattle.radix_map.specs.Entries.{value_at, with_key, without_key, edited_all, Rises, keys_end};
+ghost use Rattle.radix_map.specs.Entries.{value_at, with_key, without_key, edited_all, entries_from};
+ghost use Rattle.radix_map.specs.Entries.{Rises, keys_end};
 ghost use Rattle.radix_map.specs.Map.{root_entries};
 
 use crate::entries::Entries;
@@ -76,7 +77,16 @@ impl<V: Drop> Map<V> {
         ensures value { result ≡ self.now }
         ensures kept { Rises 0 keys_end self.now }
     {
-        Entries::of(&self.root, self.pending.rest())
+        self.entries_from(0)
+    }
+
+    /// The entries by rising key, from the least one on that is not below `from`. The way to it
+    /// leads down the tree once, whatever the map has below it.
+    pub fn entries_from(&self, from: u32) -> Entries<'_, V>
+        ensures value { result ≡ entries_from from self.now }
+        ensures kept { Rises 0 keys_end self.now }
+    {
+        Entries::of(&self.root, self.pending.rest(), from)
     }
 
     /// The values at the keys, in their order: `None` where the map has none. It is cheapest where
@@ -199,5 +209,5 @@ fn count<V: Drop>(root: &Root<V>, edits: &[Edit<V>]) -> usize
     requires { Rises 0 keys_end edits.now }
     ensures { result ≡ length (edited_all (root_entries root.now) edits.now) }
 {
-    Entries::of(root, edits).count()
+    Entries::of(root, edits, 0).count()
 }

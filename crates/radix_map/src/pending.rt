@@ -3,7 +3,8 @@
 ghost use Rattle.std.specs.Prelude.{◌≡◌, ◌+◌, ◌<◌, ◌≤◌, ◌++◌, [], true, IfOk, OnOk, OnErr, map, take};
 ghost use Rattle.std.specs.Prelude.{drop, length, option_copied, option_map};
 ghost use Rattle.std.specs.Arc.{arc_value};
-ghost use Rattle.radix_map.specs.Entries.{value_at, edited_within, leaf_map, Counts, Rises, keys_end};
+ghost use Rattle.radix_map.specs.Entries.{value_at, entries_from, edited_within, leaf_map};
+ghost use Rattle.radix_map.specs.Entries.{Counts, Rises, keys_end};
 ghost use Rattle.radix_map.specs.Pending.{told};
 
 use crate::leaf_edits::{move_value, share_value};
@@ -56,6 +57,14 @@ fn search<V>(edits: &[Edit<V>], key: u32) -> Option<&Option<Arc<V>>>
     let at = edits.partition_point(|edit| edit.0 < key);
     let edit = edits.get(at)?;
     if edit.0 == key { Some(&edit.1) } else { None }
+}
+
+/// The edits from a key on.
+pub(crate) fn edits_from<V>(edits: &[Edit<V>], from: u32) -> &[Edit<V>]
+    requires { Rises 0 keys_end edits.now }
+    ensures { result.now ≡ entries_from from edits.now }
+{
+    &edits[edits.partition_point(|edit| edit.0 < from)..]
 }
 
 /// The value that an edit sets.

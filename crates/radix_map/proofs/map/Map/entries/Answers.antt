@@ -1,9 +1,6 @@
-use Rattle.std.proofs.Common.{subst}
-use Rattle.radix_map.specs.Entries.{Rises, keys_end}
-use Rattle.radix_map.proofs.Roots.{noted_rise}
+use Rattle.std.proofs.Common.{◌∙◌}
+use Rattle.radix_map.proofs.Cuts.{from_zero}
 use Rattle.radix_map.proofs.map.Map.entries.Goals as goal
 
-pub returns-clause-kept : goal.returns-clause-kept
-returns-clause-kept g c =
-    let m = c.self.inside in
-    subst (Rises 0 keys_end) c.self.view_is (noted_rise m.root m.pending c.self.invariant.rise)
+pub returns-clause-value : goal.returns-clause-value
+returns-clause-value g c = c.entries_from.ensures.value ∙ from_zero c.args.self.now
