@@ -7,3 +7,7 @@ pub mod Histories
 pub mod Bounds
 pub mod KeyLaws
 pub mod Opened
+pub mod LiveEntries
+pub mod TouchedEntries
+pub mod NextVersion
+pub mod EditCounts
