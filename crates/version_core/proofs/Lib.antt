@@ -6,6 +6,7 @@ pub mod Rebasing
 pub mod Histories
 pub mod Bounds
 pub mod KeyLaws
+pub mod MapEdits
 pub mod Opened
 pub mod LiveEntries
 pub mod TouchedEntries

@@ -6,4 +6,5 @@ pub mod Keys
 pub mod Entries
 pub mod Version
 pub mod Looks
+pub mod Stamps
 pub mod Renewal

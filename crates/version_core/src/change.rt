@@ -54,6 +54,15 @@ impl Change {
         })
     }
 
+    /// The same change, in memory of its own.
+    pub(crate) fn copy(&self) -> Result<Change, Memory>
+        ensures { IfOk result (λ c. c ≡ self.now) }
+    {
+        let edits = self.edits.clone()?;
+        let editor = self.editor;
+        Ok(Change { editor, edits })
+    }
+
     /// The editor, 1 to 64.
     pub fn editor(&self) -> u8
         ensures { result ≡ self.now.editor }

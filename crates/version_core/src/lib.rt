@@ -18,12 +18,14 @@ mod keys;
 mod laws;
 mod looked;
 mod read;
+mod renewal;
 mod version;
 
 pub use change::{Change, Edit};
 pub use laws::changes_are_rebased;
 pub use looked::{Look, Looked};
 pub use read::RouteFault;
+pub use renewal::{NewTiles, Renewal};
 pub use version::Version;
 
 #[cfg(test)]
