@@ -1,6 +1,7 @@
 -- How many segments are live after edits that fit: each insertion adds one, and each other edit takes
 -- one away.
-use Rattle.std.proofs.Common.{◌≡◌, ap, sym, ◌∙◌, ℕ, get_or, take, ◌<◌, ◌+◌, ◌*◌, ◌≤◌, List, [], ◌∷◌, ◌++◌, filter, length, length-append, Contains, arith, is_lt, false}
+use Rattle.std.proofs.Common.{◌≡◌, ap, sym, ◌∙◌, ℕ, get_or, take, ◌<◌, ◌+◌, ◌*◌, ◌≤◌}
+use Rattle.std.proofs.Common.{List, [], ◌∷◌, ◌++◌, filter, length, length-append, Contains, arith, is_lt, false}
 use Rattle.std.proofs.lemmas.List.{take_more}
 use Rattle.std.specs.List.{AllByRecursion}
 use Rattle.std.specs.List.Sorted.{IsStrictlySortedBy}

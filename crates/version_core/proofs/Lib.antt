@@ -12,3 +12,4 @@ pub mod LiveEntries
 pub mod TouchedEntries
 pub mod NextVersion
 pub mod EditCounts
+pub mod Renewing

@@ -18,6 +18,7 @@ mod keys;
 mod laws;
 mod looked;
 mod read;
+mod renew;
 mod renewal;
 mod version;
 
