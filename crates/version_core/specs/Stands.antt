@@ -6,9 +6,9 @@ use Rattle.std.specs.List.{AllByRecursion}
 use Rattle.grid_core.specs.declared.tile.TileId.{TileId}
 use Rattle.grid_core.specs.Profile.{Sizes}
 use Rattle.grid_core.specs.Segment.{Segment}
-use Rattle.grid_core.specs.Tiles.{near, tiles}
+use Rattle.grid_core.specs.Tiles.{near, tiles, passes_in}
 use Rattle.tile_law.specs.Parts.{passes_of}
-use Rattle.hot_tile.specs.Tile.{TileContent}
+use Rattle.hot_tile.specs.Tile.{TileContent, part_in}
 use Rattle.version_core.specs.Edits.{Changes, after_edits, tiles_of_edits, FitEdits}
 
 -- the tile of these segments, none where there are none
@@ -19,6 +19,11 @@ tile_with pr t (s ∷ ss) = Some (record { profile = pr; id = t; segments = s �
 -- what tile t has of a live list: the segments that meet it, none where none does
 abbrev pub content_of : Sizes → TileId → List Segment → Option TileContent
 content_of pr t ss = tile_with pr t (near pr t ss)
+
+-- how many passes a content has
+abbrev pub content_passes : Option TileContent → ℕ
+content_passes None = 0
+content_passes (Some c) = passes_in (part_in c)
 
 -- how many pairs of a segment and a tile that it meets there are
 abbrev pub spans_of : Sizes → List Segment → ℕ
