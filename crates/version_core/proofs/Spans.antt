@@ -20,7 +20,7 @@ use Rattle.version_core.specs.Laws.{AreSegments}
 
 module _ (f : Segment → ℕ) where
   -- a segment more, of a name that the list lacks
-  sum_with : (ss : List Segment) (s : Segment) → IsStrictlySortedBy label_cmp (names ss)
+  pub sum_with : (ss : List Segment) (s : Segment) → IsStrictlySortedBy label_cmp (names ss)
       → AllByRecursion (λ u. label_eq u.name s.name ≡ false) ss → sum_by f (with_segment ss s) ≡ sum_by f ss + f s
   sum_with ss s order new =
       let low = filter (λ u. is_lt (label_cmp u.name s.name)) ss in
@@ -32,7 +32,7 @@ module _ (f : Segment → ℕ) where
       omega (arith, whole, more, own)
 
   -- a segment of the list less
-  sum_without : (ss : List Segment) (s : Segment) → IsStrictlySortedBy label_cmp (names ss)
+  pub sum_without : (ss : List Segment) (s : Segment) → IsStrictlySortedBy label_cmp (names ss)
       → IsStrictlySortedBy label_cmp (names (without_name ss s.name)) → Contains ss s
       → sum_by f ss ≡ sum_by f (without_name ss s.name) + f s
   sum_without ss s order less here =
