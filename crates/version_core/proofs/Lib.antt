@@ -1,3 +1,4 @@
+pub mod AlongCounts
 pub mod Apart
 pub mod Bounds
 pub mod Contents
@@ -12,5 +13,6 @@ pub mod Opened
 pub mod Rebased
 pub mod Rebasing
 pub mod Renewing
+pub mod Replacing
 pub mod Spans
 pub mod TouchedEntries

@@ -8,3 +8,4 @@ pub mod Version
 pub mod Looks
 pub mod Stamps
 pub mod Renewal
+pub mod Replaced

@@ -20,6 +20,7 @@ mod looked;
 mod read;
 mod renew;
 mod renewal;
+mod replace;
 mod version;
 
 pub use change::{Change, Edit};

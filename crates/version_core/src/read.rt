@@ -163,7 +163,7 @@ impl Version {
     }
 
     /// What the tile has of the rounding.
-    fn part(&self, id: TileId) -> Option<&Tile>
+    pub(crate) fn part(&self, id: TileId) -> Option<&Tile>
         ensures { option_copied result ≡ content_of self.now.profile id self.now.live }
     {
         match self.entry(id) {
