@@ -28,13 +28,13 @@ type RootFinger<'a, V> = NodeFinger<'a, Node6<V>, Finger6<'a, V>>;
 /// The values at keys that were not yet looked up, in the order of the keys: `None` where a map
 /// has no value. It is cheapest where the keys rise.
 #[derive(Drop)]
-pub struct FindAll<'a, V> {
+pub struct FindAll<'a, 'k, V> {
     tree: TreeFinger<'a, V>,
     pending: &'a [Edit<V>],
-    keys: &'a [u32],
+    keys: &'k [u32],
 }
 
-impl<'a, V> Model for FindAll<'a, V> {
+impl<'a, 'k, V> Model for FindAll<'a, 'k, V> {
     ghost use Rattle.std.specs.Prelude.{List, Option, map};
     ghost use Rattle.radix_map.specs.Entries.{value_at, edited_all, Rises, keys_end};
 
@@ -45,8 +45,12 @@ impl<'a, V> Model for FindAll<'a, V> {
     ghost invariant = { λ a. Rises 0 keys_end a.tree × Rises 0 keys_end a.pending.now };
 }
 
-impl<'a, V: Drop> FindAll<'a, V> {
-    pub(crate) fn of(root: &'a Root<V>, pending: &'a [Edit<V>], keys: &'a [u32]) -> FindAll<'a, V>
+impl<'a, 'k, V: Drop> FindAll<'a, 'k, V> {
+    pub(crate) fn of(
+        root: &'a Root<V>,
+        pending: &'a [Edit<V>],
+        keys: &'k [u32],
+    ) -> FindAll<'a, 'k, V>
         requires { Rises 0 keys_end pending.now }
         ensures { result ≡ map
             (λ k. value_at k (edited_all (root_entries root.now) pending.now)) keys.now }
@@ -59,7 +63,7 @@ impl<'a, V: Drop> FindAll<'a, V> {
     }
 }
 
-impl<'a, V: Drop> Iterator for FindAll<'a, V> {
+impl<'a, 'k, V: Drop> Iterator for FindAll<'a, 'k, V> {
     type Item = Option<&'a V>;
 
     ghost next_gives = { YieldsFirstBy option_copied (λ s. s) };

@@ -91,7 +91,7 @@ impl<V: Drop> Map<V> {
 
     /// The values at the keys, in their order: `None` where the map has none. It is cheapest where
     /// the keys rise, since then each node is entered once.
-    pub fn find_all<'a>(&'a self, keys: &'a [u32]) -> FindAll<'a, V>
+    pub fn find_all<'a, 'k>(&'a self, keys: &'k [u32]) -> FindAll<'a, 'k, V>
         ensures { result ≡ map (λ k. value_at k self.now) keys.now }
     {
         FindAll::of(&self.root, self.pending.rest(), keys)
