@@ -1,8 +1,10 @@
 pub mod AlongCounts
 pub mod Apart
 pub mod Bounds
+pub mod Changed
 pub mod Contents
 pub mod EditCounts
+pub mod Found
 pub mod Gains
 pub mod Histories
 pub mod KeyLaws
@@ -10,6 +12,8 @@ pub mod LiveEntries
 pub mod MapEdits
 pub mod NextVersion
 pub mod Opened
+pub mod PartsFound
+pub mod Pieces
 pub mod Rebased
 pub mod Rebasing
 pub mod Renewing

@@ -8,16 +8,16 @@ use Rattle.version_core.specs.Version.{IsVersion}
 none : (pr : Sizes) → IsProfile pr → IsVersion pr [] 0 0 0
 unfolding IsStrictlySortedBy
 none pr h = record {
-      sizes = h;
-      rising = omega arith;
-      keyed = tt;
-      live = record { rising = tt; within = search rules };
-      few = omega arith;
-      contents = λ t r. refl;
-      counted = refl;
-      spanned = refl;
-      passed = refl;
-    }
+  sizes = h;
+  rising = omega arith;
+  keyed = tt;
+  live = record { rising = tt; within = search rules };
+  few = omega arith;
+  contents = λ t r. refl;
+  counted = refl;
+  spanned = refl;
+  passed = refl;
+}
 
 -- where there are no entries, nothing is live, and no tile has anything
 pub nothing_live : (pr : Sizes) (es : List (ℕ × Entry)) → IsProfile pr → es ≡ [] → IsVersion pr es 0 0 0

@@ -42,6 +42,17 @@ abbrev pub IsKeyed : ℕ → Entry → Type 0
 IsKeyed k (Live s) = (k ≡ name_key s.name) × IsLabel s.name
 IsKeyed k (Touched x) = (k ≡ tile_key x.id) × IsTileInReach x.id
 
+-- the tile that a lookup found: none where there is no entry, or a segment's
+abbrev pub touched_found : Option Entry → Option TouchedTile
+touched_found None = None
+touched_found (Some (Live s)) = None
+touched_found (Some (Touched x)) = Some x
+
+-- the live segment that a lookup found: none where there is no entry, or a tile's
+abbrev pub live_found : Option Entry → Option Segment
+live_found None = None
+live_found (Some e) = segment_in e
+
 -- the content that a lookup found: none where there is no entry
 abbrev pub content_found : Option Entry → Option TileContent
 content_found None = None

@@ -6,6 +6,7 @@ pub mod Keys
 pub mod Entries
 pub mod Version
 pub mod Looks
+pub mod Parts
 pub mod Stamps
 pub mod Renewal
 pub mod Replaced

@@ -35,10 +35,13 @@ most_segments = 4096
 abbrev pub stamp_of : List (TileId × ℕ) → TileId → ℕ
 stamp_of stamps t = unwrap_or (slice_get (map (λ e. e.1) (filter (λ e. tile_eq e.0 t) stamps)) 0) 0
 
--- the tiles whose stamp is above n, by column and then row
+-- the tiles whose stamp is above n, in the order of the stamps
+abbrev pub stamped_after : List (TileId × ℕ) → ℕ → List TileId
+stamped_after stamps n = map (λ e. e.0) (filter (λ e. is_lt (nat_cmp n e.1)) stamps)
+
+-- the same tiles by column and then row
 abbrev pub tiles_stamped_after : List (TileId × ℕ) → ℕ → List TileId
-tiles_stamped_after stamps n =
-    rising tile_cmp (map (λ e. e.0) (filter (λ e. is_lt (nat_cmp n e.1)) stamps))
+tiles_stamped_after stamps n = rising tile_cmp (stamped_after stamps n)
 
 -- the version with this number and so on whose map has these entries
 abbrev pub version_of : ℕ → Sizes → ℕ → List (ℕ × Entry) → VersionState

@@ -1,12 +1,13 @@
 //! The keys of tiles and of names in a version's map.
 
 ghost use Rattle.std.specs.Prelude.{◌≡◌, ◌≤◌, ◌<◌, ◌^◌, unsigned_abs};
+ghost use Rattle.grid_core.specs.Name.{IsLabel};
 ghost use Rattle.version_core.specs.Keys.{tile_key, name_key, interleaved, raised_index, first_name_key};
 
 use grid_core::{Name, TileId};
 
 /// The first key of a name: no tile has it or a greater one.
-const FIRST_NAME_KEY: u32 = 0xC000_0000;
+pub(crate) const FIRST_NAME_KEY: u32 = 0xC000_0000;
 
 /// The key of a tile whose numbers are at most 16,384 in size. It is below `FIRST_NAME_KEY`.
 pub(crate) fn tile_key(id: TileId) -> u32
@@ -22,6 +23,7 @@ pub(crate) fn tile_key(id: TileId) -> u32
 pub(crate) fn name_key(name: Name) -> u32
     ensures value { result ≡ name_key name }
     ensures from { first_name_key ≤ result }
+    ensures kept { IsLabel name }
 {
     FIRST_NAME_KEY + (u32::from(name.editor()) * 65536 + u32::from(name.serial()))
 }

@@ -1,25 +1,35 @@
 //! What a version tells of its tiles and its segments. All that is read of it is taken down in a
 //! `Looked`: only the numbers, the stamps and the tiles that changed are told without one.
 
-ghost use Rattle.std.specs.Prelude.{◌≡◌, ◌↔◌, ◌∷◌, [], map, IfOk, OnOk, OnErr, IsErrOf};
-ghost use Rattle.std.specs.Prelude.{Contains, IsNone, IfSome, IsPermutation, option_copied};
+ghost use Rattle.std.specs.Prelude.{◌≡◌, ◌↔◌, ◌∷◌, ◌++◌, [], map, IfOk, OnOk, OnErr, IsErrOf};
+ghost use Rattle.std.specs.Prelude.{Contains, IsTrue, IsNone, None, Option, List, IfSome, IsPermutation, option_copied};
 ghost use Rattle.std.specs.List.{AllByRecursion};
 ghost use Rattle.grid_core.specs.LiveList.{names};
+ghost use Rattle.grid_core.specs.Name.{IsLabel};
+ghost use Rattle.grid_core.specs.Profile.{IsProfile};
 ghost use Rattle.grid_core.specs.Rounding.{route};
+ghost use Rattle.grid_core.specs.Tiles.{part_of};
 ghost use Rattle.tile_law.specs.Laws.{IsTileInReach};
+ghost use Rattle.tile_law.specs.Parts.{route_in};
 ghost use Rattle.hot_tile.specs.Tile.{segment_in};
+ghost use Rattle.radix_map.specs.Entries.{value_at, entries_from};
 ghost use Rattle.version_core.specs.declared.looked.Look.TheVariants.{All};
-ghost use Rattle.version_core.specs.declared.read.RouteFault.TheVariants.{Unknown, Memory as NoMemory};
 ghost use Rattle.version_core.specs.Looks.{with_looks, tile_look, name_look};
+ghost use Rattle.version_core.specs.Entries.{touched_found, live_found, content_found, live_in, stamps_in};
+ghost use Rattle.version_core.specs.Parts.{with_key, part_under, copied_part};
+ghost use Rattle.version_core.specs.declared.entry.Entry.{Entry};
+ghost use Rattle.version_core.specs.Keys.{tile_key, name_key, first_name_key};
 ghost use Rattle.version_core.specs.Stands.{content_of};
-ghost use Rattle.version_core.specs.Version.{stamp_of, tiles_stamped_after};
+ghost use Rattle.version_core.specs.Version.{stamp_of, stamped_after, tiles_stamped_after};
 
-use crate::entry::Entry;
-use crate::keys::{name_key, tile_key};
+use crate::entry::{Entry, TouchedTile};
+use crate::keys::{FIRST_NAME_KEY, name_key, tile_key};
 use crate::looked::{Look, Looked};
 use crate::version::Version;
 use grid_core::{Memory, Name, Point, TileId, Ur};
 use hot_tile::Tile;
+use radix_map::{FindAll, Map};
+use std::alloc::Global;
 
 /// Why there is no route.
 #[derive(Clone, Copy, Debug, PartialEq, Eq)]
@@ -31,6 +41,10 @@ pub enum RouteFault {
 }
 
 impl From<Memory> for RouteFault {
+    ghost use Rattle.version_core.specs.declared.read.RouteFault.{RouteFault};
+
+    ghost from_gives = { λ _ fault. fault ≡ RouteFault.Memory };
+
     fn from(_refused: Memory) -> RouteFault {
         RouteFault::Memory
     }
@@ -41,9 +55,9 @@ impl Version {
     pub fn stamp(&self, id: TileId) -> u32
         ensures { result ≡ stamp_of self.now.stamps id }
     {
-        match self.entry(id) {
-            Some(Entry::Touched(touched)) => touched.stamp,
-            _ => 0,
+        match touched_of(&self.entries, id) {
+            Some(touched) => touched.stamp,
+            None => 0,
         }
     }
 
@@ -74,10 +88,8 @@ impl Version {
         ensures looked { OnOk result (looked.new ≡ with_looks looked.old (map tile_look ids.now)) }
         ensures memory { OnErr result (looked.new ≡ looked.old) }
     {
-        let mut found = Vec::with_capacity(self.alloc, ids.len())?;
-        for id in ids {
-            found.push((*id, self.part(*id)))?;
-        }
+        let placed = by_key(self.alloc, ids)?;
+        let found = parts_at(self.alloc, &self.entries, &placed)?;
         looked.push_tiles(ids)?;
         Ok(found)
     }
@@ -102,12 +114,7 @@ impl Version {
         ensures looked { OnOk result (looked.new ≡ with_looks looked.old (All ∷ [])) }
         ensures memory { OnErr result (looked.new ≡ looked.old) }
     {
-        let mut live = Vec::with_capacity(self.alloc, self.count)?;
-        for (_, entry) in self.entries.entries() {
-            if let Entry::Live(s) = entry {
-                live.push(*s)?;
-            }
-        }
+        let live = live_list(self.alloc, self.count, &self.entries)?;
         looked.push(Look::All)?;
         Ok(live)
     }
@@ -117,11 +124,12 @@ impl Version {
         requires brand { self.now.brand ≡ looked.old.brand }
         ensures value { IfOk result (λ points. IfSome (segment_in self.now.live name)
             (λ s. points.items ≡ route self.now.live s)) }
-        ensures unknown { IsErrOf result Unknown ↔ (¬ Contains (names self.now.live) name) }
+        ensures unknown { IsErrOf result RouteFault.Unknown → (¬ Contains (names self.now.live) name) }
+        ensures known { OnOk result (Contains (names self.now.live) name) }
         ensures looked { OnOk result (looked.new ≡ with_looks looked.old (name_look name ∷ [])) }
-        ensures looked_in_vain { IsErrOf result Unknown
+        ensures looked_in_vain { IsErrOf result RouteFault.Unknown
             → looked.new ≡ with_looks looked.old (name_look name ∷ []) }
-        ensures memory { IsErrOf result NoMemory → looked.new ≡ looked.old }
+        ensures memory { IsErrOf result RouteFault.Memory → looked.new ≡ looked.old }
     {
         let Some(s) = self.live_segment(name) else {
             looked.push(Look::Name(name))?;
@@ -138,12 +146,7 @@ impl Version {
         ensures { IfOk result
             (λ ids. ids.items ≡ tiles_stamped_after self.now.stamps older.now.number) }
     {
-        let mut changed = Vec::new(self.alloc);
-        for (_, entry) in self.entries.entries() {
-            if let Entry::Touched(touched) = entry && touched.stamp > older.number {
-                changed.push(touched.id)?;
-            }
-        }
+        let mut changed = stamped_after(self.alloc, older.number, &self.entries)?;
         changed.sort_unstable();
         Ok(changed)
     }
@@ -154,22 +157,30 @@ impl Version {
         ensures { IfOk result (λ points. points.items ≡ route self.now.live s.now) }
     {
         let mut points = Vec::new(self.alloc);
-        for id in tile_walk::tiles(self.alloc, s, &self.profile)? {
-            if let Some(tile) = self.part(id) {
-                points.append(&mut tile.route(s.name())?)?;
-            }
+        let ids = tile_walk::tiles(self.alloc, s, &self.profile)?;
+        for id in &ids {
+            self.push_piece(&mut points, *id, s.name())?;
         }
         Ok(points)
     }
 
+    /// Puts what the tile has of the route of this name to the end of a list.
+    fn push_piece(&self, points: &mut Vec<Point>, id: TileId, name: Name) -> Result<(), Memory>
+        ensures { OnOk result (points.new.items ≡ points.old.items
+            ++ route_in (part_of self.now.profile id self.now.live) name) }
+    {
+        if let Some(tile) = self.part(id) {
+            points.append(&mut tile.route(name)?)?;
+        }
+        Ok(())
+    }
+
     /// What the tile has of the rounding.
     pub(crate) fn part(&self, id: TileId) -> Option<&Tile>
-        ensures { option_copied result ≡ content_of self.now.profile id self.now.live }
+        ensures value { option_copied result ≡ content_of self.now.profile id self.now.live }
+        ensures kept { IsProfile self.now.profile }
     {
-        match self.entry(id) {
-            Some(Entry::Touched(touched)) => touched.tile.as_ref(),
-            _ => None,
-        }
+        touched_of(&self.entries, id)?.tile.as_ref()
     }
 
     /// The live segment of this name.
@@ -177,17 +188,123 @@ impl Version {
         ensures value { option_copied result ≡ segment_in self.now.live name }
         ensures missing { IsNone result ↔ (¬ Contains (names self.now.live) name) }
     {
-        match self.entries.get(name_key(name)) {
-            Some(Entry::Live(s)) => Some(s),
-            _ => None,
-        }
+        live_of(&self.entries, name)
     }
+}
 
-    /// What stands under the tile's key, nothing for a tile that is out of reach.
-    fn entry(&self, id: TileId) -> Option<&Entry> {
-        if id.i.unsigned_abs() > 16384 || id.j.unsigned_abs() > 16384 {
-            return None;
-        }
-        self.entries.get(tile_key(id))
+/// The live segment under the name's key.
+fn live_of(entries: &Map<Entry>, name: Name) -> Option<&Ur>
+    ensures value { option_copied result ≡ live_found (value_at (name_key name) entries.now) }
+    ensures kept { IsLabel name }
+{
+    match entries.get(name_key(name))? {
+        Entry::Live(s) => Some(s),
+        Entry::Touched(_) => None,
     }
+}
+
+/// Tiles with their keys, by rising key.
+fn by_key(alloc: Global, ids: &[TileId]) -> Result<Vec<(u32, TileId)>, Memory>
+    requires { AllByRecursion IsTileInReach ids.now }
+    ensures { IfOk result (λ placed. IsPermutation (map with_key ids.now) placed.items) }
+{
+    let mut placed = Vec::with_capacity(alloc, ids.len())?;
+    for id in ids {
+        placed.push((tile_key(*id), *id))?;
+    }
+    placed.sort_unstable_by_key(|p: &(u32, TileId)| p.0);
+    Ok(placed)
+}
+
+/// What stands under the keys of these tiles.
+fn parts_at<'a>(
+    alloc: Global,
+    entries: &'a Map<Entry>,
+    placed: &[(u32, TileId)],
+) -> Result<Vec<(TileId, Option<&'a Tile>)>, Memory>
+    ensures { IfOk result (λ found. map copied_part found.items
+        ≡ map (part_under entries.now) placed.now) }
+{
+    let keys = keys_of(alloc, placed)?;
+    let mut values = entries.find_all(&keys);
+    let mut found = Vec::with_capacity(alloc, placed.len())?;
+    for p in placed {
+        let part = next_part(&mut values);
+        found.push((p.1, part))?;
+    }
+    Ok(found)
+}
+
+/// The keys of these tiles.
+fn keys_of(alloc: Global, placed: &[(u32, TileId)]) -> Result<Vec<u32>, Memory>
+    ensures { IfOk result (λ keys. keys.items ≡ map (λ p. p.0) placed.now) }
+{
+    let mut keys = Vec::with_capacity(alloc, placed.len())?;
+    for p in placed {
+        keys.push(p.0)?;
+    }
+    Ok(keys)
+}
+
+/// What the tile has whose entry is found next.
+fn next_part<'a>(values: &mut FindAll<'a, '_, Entry>) -> Option<&'a Tile>
+    ensures { (found : Option Entry) (rest : List (Option Entry)) → values.old ≡ found ∷ rest
+        → (option_copied result ≡ content_found found) × (values.new ≡ rest) }
+{
+    match values.next()?? {
+        Entry::Touched(touched) => touched.tile.as_ref(),
+        Entry::Live(_) => None,
+    }
+}
+
+/// The live list of these entries, `count` segments or so.
+fn live_list(alloc: Global, count: usize, entries: &Map<Entry>) -> Result<Vec<Ur>, Memory>
+    ensures { IfOk result
+        (λ live. live.items ≡ live_in (entries_from first_name_key entries.now)) }
+{
+    let mut live = Vec::with_capacity(alloc, count)?;
+    for (_, entry) in entries.entries_from(FIRST_NAME_KEY) {
+        if let Entry::Live(s) = entry {
+            live.push(*s)?;
+        }
+    }
+    Ok(live)
+}
+
+/// The tiles of these entries whose stamp is above a number, by key.
+fn stamped_after(alloc: Global, number: u32, entries: &Map<Entry>) -> Result<Vec<TileId>, Memory>
+    ensures { IfOk result (λ ids. ids.items ≡ stamped_after (stamps_in entries.now) number) }
+{
+    let mut ids = Vec::new(alloc);
+    for (_, entry) in entries.entries() {
+        if let Entry::Touched(touched) = entry
+            && touched.stamp > number
+        {
+            ids.push(touched.id)?;
+        }
+    }
+    Ok(ids)
+}
+
+/// What stands under the tile's key. `None` where no change touched it, and so for each tile out of
+/// reach.
+fn touched_of(entries: &Map<Entry>, id: TileId) -> Option<&TouchedTile>
+    ensures within { IsTileInReach id
+        → option_copied result ≡ touched_found (value_at (tile_key id) entries.now) }
+    ensures beyond { (¬ IsTileInReach id) → option_copied result ≡ None }
+{
+    if !is_in_reach(id) {
+        return None;
+    }
+    match entries.get(tile_key(id))? {
+        Entry::Touched(touched) => Some(touched),
+        Entry::Live(_) => None,
+    }
+}
+
+/// Whether the column and the row of the tile are at most 16,384 in size.
+fn is_in_reach(id: TileId) -> bool
+    ensures { IsTrue result ↔ IsTileInReach id }
+{
+    id.i.unsigned_abs() <= 16384 && id.j.unsigned_abs() <= 16384
 }

@@ -1,4 +1,3 @@
-use Rattle.std.proofs.Common.{rules, arith}
 use Rattle.version_core.proofs.Opened.{nothing_live}
 use Rattle.version_core.proofs.version.Version.open.Goals as goal
 
