@@ -7,7 +7,7 @@ use Rattle.std.specs.List.{AllByRecursion, cons_option}
 use Rattle.std.specs.Arc.{arc_value}
 use Rattle.std.specs.Result.{OnOk}
 use Rattle.std.specs.declared.sync.Arc.{Arc}
-use Rattle.std.proofs.lemmas.List.{map-append}
+use Rattle.std.proofs.lemmas.List.{map-append, drop-map}
 use Rattle.std.proofs.lemmas.List.Elements.{filter_map-append}
 use Rattle.radix_map.specs.Entries.{edited, edited_all}
 use Rattle.version_core.specs.declared.entry.Entry.{Entry}
@@ -62,7 +62,7 @@ abbrev pub renewed_by : Changes → ℤ → ℤ → List (ℕ × Option Entry) �
 renewed_by x gain span_gain xs =
     record { change = x; contents = contents_put xs; gain = gain; span_gain = span_gain }
 
--- is the same
+-- and are the same of it
 pub renewed_alike : (x : Changes) (gain span_gain : ℤ) (xs ys : List (ℕ × Option Entry))
     → map (stamped_edit 0) ys ≡ map (stamped_edit 0) xs
     → renewed_by x gain span_gain ys ≡ renewed_by x gain span_gain xs
@@ -96,7 +96,7 @@ name_alone n (k, Some (Touched x)) e h =
     let same : tag (Some (stamped n (Touched x))) ≡ 0 = ap (λ (p : ℕ × Option Entry). tag p.1) h ∙ name_tag e in
     absurd (omega (arith, same))
 
--- the first element, and the others
+-- the first element
 abbrev head_or : {A : Type 0} → A → List A → A
 head_or d [] = d
 head_or d (x ∷ xs) = x
@@ -110,11 +110,6 @@ names_alone n (x ∷ xs) (e ∷ es) h =
     let first = name_alone n x e (ap (head_or x) h) in
     let rest = names_alone n xs es (ap (drop 1) h) in
     ap (λ y. y ∷ xs) first ∙ ap (λ ys. put_name e ∷ ys) rest
-
-drop-map : {A B : Type 0} (f : A → B) (n : ℕ) (xs : List A) → drop n (map f xs) ≡ map f (drop n xs)
-drop-map f zero xs = refl
-drop-map f (suc n) [] = refl
-drop-map f (suc n) (x ∷ xs) = drop-map f n xs
 
 -- the first edits put tiles with stamps where they do without
 tiles_stamped : (n m : ℕ) (xs : List (ℕ × Option Entry)) → AllByRecursion (λ e. PutsTile e.0 e.1) (take m xs)

@@ -23,7 +23,8 @@ type MapEdit = (u32, Option<Arc<Entry>>);
 #[derive(Drop)]
 pub struct NewTiles {
     alloc: Global,
-    /// An edit for each tile. The change that they belong to has no number yet, so their stamps are 0.
+    /// An edit for each tile. The change that they belong to has no number yet, so their stamps
+    /// are 0.
     edits: Vec<MapEdit>,
 }
 
@@ -38,7 +39,8 @@ impl Model for NewTiles {
 
     ghost view = { λ n. contents_put (map plain_edit n.edits.items) };
 
-    ghost invariant = { λ n. AllByRecursion (λ e. PutsTile e.0 e.1) (map plain_edit n.edits.items) };
+    ghost invariant = { λ n.
+        AllByRecursion (λ e. PutsTile e.0 e.1) (map plain_edit n.edits.items) };
 }
 
 impl NewTiles {
@@ -68,8 +70,8 @@ impl NewTiles {
     }
 }
 
-/// What a change makes of a version: the new contents of its tiles, in any order, and how many passes
-/// and spans it gains. It is prepared before the change has a number.
+/// What a change makes of a version: the new contents of its tiles, in any order, and how many
+/// passes and spans it gains. It is prepared before the change has a number.
 #[derive(Drop)]
 pub struct Renewal {
     alloc: Global,
