@@ -2,15 +2,16 @@
 -- a row, raised or joined, and at a key.
 use Rattle.std.proofs.Common.{◌≡◌, refl, sym, ap, subst, ◌∙◌, ℕ, suc, zero, ◌+◌, ◌*◌, ◌%◌, ◌<◌, ◌≤◌, arith, ◌⊎◌, inl, inr}
 use Rattle.std.proofs.Common.{List, [], ◌∷◌, ◌++◌, get_or, drop, true, false, cond}
-use Rattle.std.proofs.Common.{rules}
+use Rattle.std.proofs.Common.{Some, None, slice_get, rules}
 use Rattle.std.proofs.Math.Nat.{zero-mod}
 use Rattle.std.specs.Bool.{nat_lt, nat_le}
 use Rattle.std.specs.List.Sorted.{IsPartitionPoint}
 use Rattle.std.proofs.lemmas.Bool.{le-leb, lt-leb, lt-ltb, le-ltb, ltb-true, ltb-false}
 use Rattle.std.proofs.lemmas.List.Elements.{filter-append}
-use Rattle.radix_map.specs.Entries.{entries_from, entries_below, raised, joined, Rises}
+use Rattle.radix_map.specs.Entries.{entries_from, entries_below, value_at, raised, joined, Rises}
 use Rattle.radix_map.specs.Rising.{rises_lower, rises-first, rises-joined, AllRise}
-use Rattle.radix_map.proofs.Keys.{rises_order}
+use Rattle.radix_map.proofs.Keys.{rises_order, value_below, value-append_right}
+use Rattle.radix_map.proofs.Values.{own_value}
 
 -- k is above x, or at most x
 pub below_or_from : (k x : ℕ) → (x < k) ⊎ (k ≤ x)
@@ -146,6 +147,37 @@ from_keeps {V} k a b (e ∷ es) h = by (from_keeps k (e.0 + 1) b es h.1) (below_
         let low = h.0 in
         subst (Rises a b) (sym (from_later k e es m)) (rises_lower a (e.0 + 1) b (entries_from k es) (omega arith) rest)
     by rest (inr m) = subst (Rises a b) (sym (from_first k e es m)) (h.0, rest)
+
+-- ---- the value at a key
+
+-- a key at or above the bound has its value in the entries from there on
+pub value_from : {V : Type 0} (k from b : ℕ) (es : List (ℕ × V)) → Rises 0 b es → from ≤ k
+    → value_at k (entries_from from es) ≡ value_at k es
+value_from k from b es h l =
+    sym (value-append_right k 0 from (entries_below from es) (entries_from from es) (below_rises from 0 b es h (omega arith)) l)
+    ∙ ap (value_at k) (cut from 0 b es h)
+
+-- where keys are at least k, the first entry alone may have it
+pub first_has : {V : Type 0} (k : ℕ) (es : List (ℕ × V)) (e : ℕ × V) → Some e ≡ slice_get es 0 → e.0 ≡ k → Some e.1 ≡ value_at k es
+first_has k [] e s q = cc
+first_has k (x ∷ es) e s q =
+    let first : e ≡ x = cc in
+    sym (own_value e.0 e.1 es) ∙ ap (λ t. value_at e.0 (t ∷ es)) first ∙ ap (λ n. value_at n (x ∷ es)) q
+
+pub first_lacks : {V : Type 0} (k b : ℕ) (es : List (ℕ × V)) (e : ℕ × V) → Rises k b es → Some e ≡ slice_get es 0 → (e.0 ≡ k → ⊥)
+    → None ≡ value_at k es
+first_lacks k b [] e h s other = cc
+first_lacks k b (x ∷ es) e h s other =
+    let low = h.0 in
+    let first : e ≡ x = cc in
+    let key : e.0 ≡ x.0 = ap (λ (t : _). t.0) first in
+    let above : k < x.0 = search (arith, other) in
+    let own : x.0 ≤ x.0 = omega arith in
+    sym (value_below k x.0 b (x ∷ es) (own, h.1) above)
+
+pub none_lacks : {V : Type 0} (k : ℕ) (es : List (ℕ × V)) → None ≡ slice_get es 0 → None ≡ value_at k es
+none_lacks k [] s = refl
+none_lacks k (x ∷ es) s = cc
 
 -- ---- maps in a row, from a key of the i-th of them on
 

@@ -2,7 +2,7 @@
 -- edits, the value at a key, the entries from a key on and those below it, each also after edits, and
 -- that a map is fixed by its values. The other lemma files of this crate are about the tree, and change
 -- with it.
-use Rattle.std.proofs.Common.{◌≡◌, refl, sym, ap, subst, ◌∙◌, ℕ, ◌+◌, ◌<◌, ◌≤◌, arith, ◌⊎◌, inl, inr}
+use Rattle.std.proofs.Common.{◌≡◌, refl, sym, ap, ◌∙◌, ℕ, ◌+◌, ◌<◌, ◌≤◌, arith, ◌⊎◌, inl, inr}
 use Rattle.std.proofs.Common.{List, [], ◌∷◌, ◌++◌, cond, is_eq, nat_cmp, option_map, Option, Some, None}
 use Rattle.std.proofs.lemmas.List.{append-nil}
 use Rattle.std.specs.Arc.{arc_value}
@@ -16,12 +16,12 @@ use Rattle.radix_map.specs.Entries.{entries_from, entries_below}
 use Rattle.radix_map.specs.Rising.{rises_lower, rises_wider}
 use Rattle.radix_map.proofs.Cuts.{from_all, from_none, below_all, below_none, below_rises, from_rises, from-append}
 use Rattle.radix_map.proofs.Cuts.{below-append, below_or_from}
-use Rattle.radix_map.proofs.Halves.{AreHalves, halves, from_edited}
+use Rattle.radix_map.proofs.Halves.{halves, from_edited}
 use Rattle.radix_map.proofs.Keys.{value_below, value-append_left, value-append_right, rises_order}
 use Rattle.radix_map.proofs.Noted.{value_noted, edit_or, fit_from_rises}
 use Rattle.radix_map.proofs.Trees.{edited_rises, fit-append}
 use Rattle.radix_map.proofs.Values.{value_edited, own_value, key_greater}
-pub use Rattle.radix_map.proofs.Cuts.{cut, from_first, from_later, below_first, below_later}
+pub use Rattle.radix_map.proofs.Cuts.{cut, from_first, from_later, below_first, below_later, value_from}
 
 -- ---- keys still rise
 
@@ -70,13 +70,7 @@ pub value_edited_all : {V Z : Type 0} (k : ℕ) (es : List (ℕ × V)) (edits : 
     → value_at k (edited_all es edits) ≡ edit_or (value_at k edits) (value_at k es)
 value_edited_all k es edits h g = value_noted k 0 keys_end es edits h g
 
--- a key at or above the bound has its value in the entries from there on, and none below
-pub value_from : {V : Type 0} (k from b : ℕ) (es : List (ℕ × V)) → Rises 0 b es → from ≤ k
-    → value_at k (entries_from from es) ≡ value_at k es
-value_from k from b es h l =
-    sym (value-append_right k 0 from (entries_below from es) (entries_from from es) (below_rises from 0 b es h (omega arith)) l)
-    ∙ ap (value_at k) (cut from 0 b es h)
-
+-- a key below the bound has no value in the entries from there on
 pub value_from_below : {V : Type 0} (k from b : ℕ) (es : List (ℕ × V)) → Rises 0 b es → from ≤ b → k < from
     → value_at k (entries_from from es) ≡ None
 value_from_below k from b es h l n = value_below k from b (entries_from from es) (from_rises from 0 b es h l) n
@@ -143,7 +137,8 @@ pub halves_edited : {V Z : Type 0} (bound : ℕ) (low high : List (ℕ × V)) (e
 halves_edited bound low high edits_low edits_high l h el eh =
     let edits = edits_low ++ edits_high in
     let end = rises_order bound keys_end high h in
-    let fit = fit-append edits_low edits_high (fit_from_rises 0 edits_low (rises_wider 0 bound keys_end edits_low el end)) (fit_from_rises bound edits_high eh) in
+    let fit_low = fit_from_rises 0 edits_low (rises_wider 0 bound keys_end edits_low el end) in
+    let fit = fit-append edits_low edits_high fit_low (fit_from_rises bound edits_high eh) in
     let below : entries_below bound edits ≡ edits_low =
     below-append bound edits_low edits_high ∙ ap (λ t. t ++ entries_below bound edits_high) (below_all bound 0 bound edits_low el (omega arith))
     ∙ ap (λ t. edits_low ++ t) (below_none bound bound keys_end edits_high eh (omega arith)) ∙ append-nil edits_low in

@@ -1,3 +1,5 @@
+-- Laws is for the crates above. The other files are inner: they are about the tree and its walks, and
+-- change with them.
 pub mod Carried
 pub mod Carrying
 pub mod Copied

@@ -1,18 +1,17 @@
 -- Noted edits by rising key, over entries by rising key: the value at a key, the first entry, and that only keys and values of edits matter.
 use Rattle.std.proofs.Common.{inl, inr, ◌≡◌, ℕ, suc, zero, ◌+◌, ◌<◌, ◌≤◌, List, [], ◌∷◌, ◌++◌, length, map, take, get_or, Bool, true, false, cond, is_eq, nat_cmp, option_map, MatchOption, Option, Some, None, refl, sym, ap, ◌∙◌, subst, arith}
 use Rattle.std.specs.Bool.{nat_lt}
-use Rattle.std.specs.List.Sorted.{IsPartitionedBy, IsPartitionPoint}
+use Rattle.std.specs.List.Sorted.{IsPartitionedBy}
 use Rattle.std.proofs.lemmas.List.Sorted.{IsPartitionedBy-ltb}
-use Rattle.std.proofs.lemmas.Bool.{ltb-true, ltb-false}
 use Rattle.std.specs.Arc.{arc_value}
 use Rattle.std.specs.declared.sync.Arc.{Arc}
 use Rattle.std.specs.Ordering.{match_ordering}
 use Rattle.radix_map.specs.Entries.{value_at, with_key, without_key, edited, edited_all, Rises, KeysFit, keys_end}
-use Rattle.radix_map.specs.Pending.{told, StartsAbove, IsPast}
+use Rattle.radix_map.specs.Pending.{plain_edit, StartsAbove, IsPast}
 use Rattle.radix_map.specs.Rising.{rises_lower}
 use Rattle.radix_map.proofs.Keys.{value_below, rises_order, edited-append_right, with_below, without_below}
 use Rattle.radix_map.proofs.Trees.{edited_rises}
-use Rattle.radix_map.proofs.Values.{same_key, key_equal, key_greater, value_edited, own_value}
+use Rattle.radix_map.proofs.Values.{same_key, key_equal, value_edited}
 
 pub fit_from_rises : {V Z : Type 0} (a : ℕ) (ps : List (ℕ × Option (Arc V Z))) → Rises a keys_end ps → KeysFit ps
 fit_from_rises a [] h = tt
@@ -131,27 +130,27 @@ rises_key b es e later q h = let all : Rises 0 b (e ∷ later) = subst (Rises 0 
 
 -- ---- only keys and values of edits matter
 
-pub edited_as_told : {V Z Y : Type 0} (es : List (ℕ × V)) (ps : List (ℕ × Option (Arc V Z))) (qs : List (ℕ × Option (Arc V Y)))
-    → map told ps ≡ map told qs → edited_all es ps ≡ edited_all es qs
+pub edited_plainly : {V Z Y : Type 0} (es : List (ℕ × V)) (ps : List (ℕ × Option (Arc V Z))) (qs : List (ℕ × Option (Arc V Y)))
+    → map plain_edit ps ≡ map plain_edit qs → edited_all es ps ≡ edited_all es qs
 unfolding edited_all
-edited_as_told es [] [] e = refl
-edited_as_told es [] (q ∷ qs) e = cc
-edited_as_told es (p ∷ ps) [] e = cc
-edited_as_told es (p ∷ ps) (q ∷ qs) e =
-    let first : told p ≡ told q = cc in
-    let rest : map told ps ≡ map told qs = cc in
-    ap (λ (t : _). edited_all (edited es t.0 t.1) ps) first ∙ edited_as_told (edited es q.0 (option_map arc_value q.1)) ps qs rest
+edited_plainly es [] [] e = refl
+edited_plainly es [] (q ∷ qs) e = cc
+edited_plainly es (p ∷ ps) [] e = cc
+edited_plainly es (p ∷ ps) (q ∷ qs) e =
+    let first : plain_edit p ≡ plain_edit q = cc in
+    let rest : map plain_edit ps ≡ map plain_edit qs = cc in
+    ap (λ (t : _). edited_all (edited es t.0 t.1) ps) first ∙ edited_plainly (edited es q.0 (option_map arc_value q.1)) ps qs rest
 
-pub rises_as_told : {V Z Y : Type 0} (a b : ℕ) (ps : List (ℕ × Option (Arc V Z))) (qs : List (ℕ × Option (Arc V Y)))
-    → map told ps ≡ map told qs → Rises a b qs → Rises a b ps
-rises_as_told a b [] [] e h = h
-rises_as_told a b [] (q ∷ qs) e h = cc
-rises_as_told a b (p ∷ ps) [] e h = cc
-rises_as_told a b (p ∷ ps) (q ∷ qs) e h =
-    let first : told p ≡ told q = cc in
-    let rest : map told ps ≡ map told qs = cc in
+pub rises_plainly : {V Z Y : Type 0} (a b : ℕ) (ps : List (ℕ × Option (Arc V Z))) (qs : List (ℕ × Option (Arc V Y)))
+    → map plain_edit ps ≡ map plain_edit qs → Rises a b qs → Rises a b ps
+rises_plainly a b [] [] e h = h
+rises_plainly a b [] (q ∷ qs) e h = cc
+rises_plainly a b (p ∷ ps) [] e h = cc
+rises_plainly a b (p ∷ ps) (q ∷ qs) e h =
+    let first : plain_edit p ≡ plain_edit q = cc in
+    let rest : map plain_edit ps ≡ map plain_edit qs = cc in
     let key : p.0 ≡ q.0 = ap (λ (t : _). t.0) first in
-    (subst (λ n. a ≤ n) (sym key) h.0, rises_as_told (p.0 + 1) b ps qs rest (subst (λ n. Rises (n + 1) b qs) (sym key) h.1))
+    (subst (λ n. a ≤ n) (sym key) h.0, rises_plainly (p.0 + 1) b ps qs rest (subst (λ n. Rises (n + 1) b qs) (sym key) h.1))
 
 -- ---- whether edits rise, one after another
 
@@ -161,7 +160,7 @@ rises_more a b [] i d l h k = absurd (omega arith)
 rises_more a b (e ∷ es) zero d l h k = (omega arith, omega arith)
 rises_more a b (e ∷ es) (suc i) d l h k = (h.0, rises_more (e.0 + 1) b es i d (omega arith) h.1 k)
 
--- ---- the edit of a key, found by halves
+-- ---- edits are parted by a key
 
 rises_at : {V : Type 0} (a b i : ℕ) (es : List (ℕ × V)) (d : ℕ × V) → Rises a b es → i < length es → a ≤ (get_or es i d).0
 rises_at a b i [] d h l = absurd (omega arith)
@@ -178,36 +177,6 @@ rises_by a b (e ∷ es) h (suc i) (suc j) d l n = rises_by (e.0 + 1) b es h.1 i 
 
 pub rising_parted : {V : Type 0} (a b k : ℕ) (es : List (ℕ × V)) → Rises a b es → IsPartitionedBy (λ e. nat_lt e.0 k) es
 rising_parted a b k es h = IsPartitionedBy-ltb (λ e. e.0) es k (rises_by a b es h)
-
-pub value_found : {V : Type 0} (a b k i : ℕ) (es : List (ℕ × V)) (e : ℕ × V) → Rises a b es → i < length es
-    → e ≡ get_or es i e → e.0 ≡ k → Some e.1 ≡ value_at k es
-value_found a b k i [] e h l q p = absurd (omega arith)
-value_found a b k zero (x ∷ es) e h l q p =
-    sym (own_value e.0 e.1 es) ∙ ap (λ (t : _). value_at e.0 (t ∷ es)) q ∙ ap (λ n. value_at n (x ∷ es)) p
-value_found a b k (suc i) (x ∷ es) e h l q p =
-    let at : x.0 + 1 ≤ (get_or es i e).0 = rises_at (x.0 + 1) b i es e h.1 (omega arith) in
-    let same : (get_or es i e).0 ≡ e.0 = ap (λ (t : _). t.0) (sym q) in
-    value_found (x.0 + 1) b k i es e h.1 (omega arith) q p
-    ∙ sym (ap (λ r. cond (is_eq r) (Some x.1) (value_at k es)) (key_greater k x.0 (omega arith)))
-
-missing_by : {V : Type 0} (a b k i : ℕ) (es : List (ℕ × V)) → Rises a b es
-    → ((j : ℕ) (d : ℕ × V) → j < i → j < length es → (get_or es j d).0 < k)
-    → ((d : ℕ × V) → i < length es → k < (get_or es i d).0) → None ≡ value_at k es
-missing_by a b k i [] h low high = refl
-missing_by a b k zero (x ∷ es) h low high =
-    let l : k < x.0 = high x (omega arith) in
-    let from : x.0 ≤ x.0 = omega arith in
-    sym (value_below k x.0 b (x ∷ es) (from, h.1) l)
-missing_by a b k (suc i) (x ∷ es) h low high =
-    let l : x.0 < k = low zero x (omega arith) (omega arith) in
-    missing_by (x.0 + 1) b k i es h.1 (λ j d n m. low (suc j) d (omega arith) (omega arith)) (λ d n. high d (omega arith))
-    ∙ sym (ap (λ r. cond (is_eq r) (Some x.1) (value_at k es)) (key_greater k x.0 l))
-
-pub value_missing : {V : Type 0} (a b k i : ℕ) (es : List (ℕ × V)) → Rises a b es → i ≤ length es
-    → IsPartitionPoint (λ e. nat_lt e.0 k ≡ true) (λ e. nat_lt e.0 k ≡ false) es i
-    → ((d : ℕ × V) → i < length es → (get_or es i d).0 ≡ k → ⊥) → None ≡ value_at k es
-value_missing a b k i es h l parts other =
-    missing_by a b k i es h (λ j d n m. ltb-true (get_or es j d).0 k (parts.0 j d (omega arith) n)) (λ d n. let low = ltb-false (get_or es i d).0 k (parts.1 i d (omega arith) n) in let ne = other d n in omega arith)
 
 -- ---- when no edit is left, the tree's own entries come
 

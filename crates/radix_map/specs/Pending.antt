@@ -4,9 +4,9 @@ use Rattle.std.specs.Arc.{arc_value}
 use Rattle.std.specs.declared.sync.Arc.{Arc}
 use Rattle.radix_map.specs.Entries.{edited_within}
 
--- an edit by its key and value, whatever pointer leads to the value
-abbrev pub told : {V Z : Type 0} → ℕ × Option (Arc V Z) → ℕ × Option V
-told e = (e.0, option_map arc_value e.1)
+-- an edit with its value in place of the pointer to it
+abbrev pub plain_edit : {V Z : Type 0} → ℕ × Option (Arc V Z) → ℕ × Option V
+plain_edit e = (e.0, option_map arc_value e.1)
 
 -- the first entry has a key above k, if there is one
 abbrev pub StartsAbove : {V : Type 0} → ℕ → List (ℕ × V) → Type 0

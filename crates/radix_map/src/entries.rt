@@ -1,7 +1,7 @@
 //! A walk over the entries of a map by rising key, from a key on, which visits stored nodes alone.
 
 ghost use Rattle.std.specs.Prelude.{◌≡◌, ℕ, ◌+◌, ◌*◌, ◌%◌, ◌^◌, ◌<◌, ◌≤◌, ◌∷◌, List, [], ◌++◌};
-ghost use Rattle.std.specs.Prelude.{MatchOption, IfNone, IfSome, option_copied};
+ghost use Rattle.std.specs.Prelude.{MatchOption, IfNone, IfSome};
 ghost use Rattle.radix_map.specs.Entries.{raised, entries_from, entries_behind, part, single, block};
 ghost use Rattle.radix_map.specs.Entries.{edited_all, Rises, keys_end};
 ghost use Rattle.radix_map.specs.Pending.{IsPast};

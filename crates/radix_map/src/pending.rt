@@ -5,7 +5,7 @@ ghost use Rattle.std.specs.Prelude.{drop, length, option_copied, option_map};
 ghost use Rattle.std.specs.Arc.{arc_value};
 ghost use Rattle.radix_map.specs.Entries.{value_at, entries_from, edited_within, leaf_map};
 ghost use Rattle.radix_map.specs.Entries.{Counts, Rises, keys_end};
-ghost use Rattle.radix_map.specs.Pending.{told};
+ghost use Rattle.radix_map.specs.Pending.{plain_edit};
 
 use crate::leaf_edits::{move_value, share_value};
 use crate::level::{Edit, Tally};
@@ -54,8 +54,7 @@ fn search<V>(edits: &[Edit<V>], key: u32) -> Option<&Option<Arc<V>>>
     requires { Rises 0 keys_end edits.now }
     ensures { option_copied result ≡ value_at key edits.now }
 {
-    let at = edits.partition_point(|edit| edit.0 < key);
-    let edit = edits.get(at)?;
+    let edit = edits_from(edits, key).first()?;
     if edit.0 == key { Some(&edit.1) } else { None }
 }
 
@@ -145,7 +144,7 @@ impl<V: Drop> Note<V> {
     /// Notes the edits where none are noted, and none of them after want of memory.
     pub(crate) fn note(&mut self, edits: &[Edit<V>]) -> Result<(), Memory>
         requires { self.old ≡ [] }
-        ensures ok { OnOk result (map told self.new ≡ map told edits.now) }
+        ensures ok { OnOk result (map plain_edit self.new ≡ map plain_edit edits.now) }
         ensures err { OnErr result (self.new ≡ []) }
     {
         self.edits.clear();
@@ -180,8 +179,8 @@ impl<V: Drop> Note<V> {
 
 // Puts the edits, whose values are shared, behind those that are there.
 fn share_edits<V: Drop>(to: &mut Vec<Edit<V>>, edits: &[Edit<V>]) -> Result<(), Memory>
-    ensures { OnOk result (map told to.new.items
-        ≡ map told to.old.items ++ map told edits.now) }
+    ensures { OnOk result (map plain_edit to.new.items
+        ≡ map plain_edit to.old.items ++ map plain_edit edits.now) }
 {
     to.reserve(edits.len())?;
     for edit in edits {

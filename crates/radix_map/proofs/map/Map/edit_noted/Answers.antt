@@ -2,7 +2,7 @@ use Rattle.std.proofs.Common.{length, ap, sym, ◌∙◌, subst, arith}
 use Rattle.radix_map.specs.Map.{root_entries}
 use Rattle.radix_map.specs.Entries.{Rises, edited_all, keys_end}
 use Rattle.radix_map.specs.Rising.{rises-length}
-use Rattle.radix_map.proofs.Noted.{edited_as_told, rises_as_told}
+use Rattle.radix_map.proofs.Noted.{edited_plainly, rises_plainly}
 use Rattle.radix_map.proofs.Roots.{root_size, root_carried, root_part, part_rises, no_edits, none_rise}
 use Rattle.radix_map.proofs.map.Map.edit_noted.Goals as goal
 
@@ -11,7 +11,7 @@ overflow_add-self g c =
     let m = c.self.inside in
     let noted = c.note.new.self in
     let before = ap length (no_edits (root_entries m.root) m.pending (c.is_empty.ensures c.if-not-is_empty.false)) in
-    let rise = rises_as_told 0 keys_end noted c.args.edits.now c.in_ok-note.ensures.ok (c.rise.ensures c.if-not-rise.false) in
+    let rise = rises_plainly 0 keys_end noted c.args.edits.now c.in_ok-note.ensures.ok (c.rise.ensures c.if-not-rise.false) in
     let few = rises-length 0 keys_end noted rise in
     let count = ap length c.rest-noted.ensures in
     let size = root_size m.root in
@@ -40,20 +40,20 @@ returns-in-Ok-clause-ok g c =
     let noted = c.note.new.self in
     let x = c.carry-carried.new.self in
     let none = c.is_empty.ensures c.if-not-is_empty.false in
-    let rise = rises_as_told 0 keys_end noted edits c.in_ok-note.ensures.ok (c.rise.ensures c.if-not-rise.false) in
+    let rise = rises_plainly 0 keys_end noted edits c.in_ok-note.ensures.ok (c.rise.ensures c.if-not-rise.false) in
     let count = ap length c.rest-noted.ensures in
-    no_edits (root_entries x) c.clear.new.self c.clear.ensures ∙ root_carried m.root x noted (length c.rest-noted.result.now) (omega arith) rise c.in-Ok.ensures.ok ∙ edited_as_told (root_entries m.root) noted edits c.in_ok-note.ensures.ok ∙ ap (λ es. edited_all es edits) (sym (no_edits (root_entries m.root) m.pending none) ∙ c.self.view_is)
+    no_edits (root_entries x) c.clear.new.self c.clear.ensures ∙ root_carried m.root x noted (length c.rest-noted.result.now) (omega arith) rise c.in-Ok.ensures.ok ∙ edited_plainly (root_entries m.root) noted edits c.in_ok-note.ensures.ok ∙ ap (λ es. edited_all es edits) (sym (no_edits (root_entries m.root) m.pending none) ∙ c.self.view_is)
 
 pub count-self-inside-requires : goal.count-self-inside-requires
 count-self-inside-requires g c =
     let noted = c.note.new.self in
-    let rise = rises_as_told 0 keys_end noted c.args.edits.now c.in_ok-note.ensures.ok (c.rise.ensures c.if-not-rise.false) in
+    let rise = rises_plainly 0 keys_end noted c.args.edits.now c.in_ok-note.ensures.ok (c.rise.ensures c.if-not-rise.false) in
     subst (Rises 0 keys_end) (sym c.rest.ensures) (part_rises c.self.inside.root c.carry-carried.new.self noted c.carry-carried.new.note (length c.rest-noted.result.now) rise c.in-Err.ensures.err)
 
 pub invariant_of-self-in-Err : goal.invariant_of-self-in-Err
 invariant_of-self-in-Err g c =
     let noted = c.note.new.self in
-    let rise = rises_as_told 0 keys_end noted c.args.edits.now c.in_ok-note.ensures.ok (c.rise.ensures c.if-not-rise.false) in
+    let rise = rises_plainly 0 keys_end noted c.args.edits.now c.in_ok-note.ensures.ok (c.rise.ensures c.if-not-rise.false) in
     record {
       counted = c.count-self-inside.ensures ∙ ap (λ (ps : _). length (edited_all (root_entries c.carry-carried.new.self) ps)) c.rest.ensures;
       rise = part_rises c.self.inside.root c.carry-carried.new.self noted c.carry-carried.new.note (length c.rest-noted.result.now) rise c.in-Err.ensures.err;
@@ -65,5 +65,5 @@ returns-in-Err-clause-ok g c =
     let edits = c.args.edits.now in
     let noted = c.note.new.self in
     let none = c.is_empty.ensures c.if-not-is_empty.false in
-    let rise = rises_as_told 0 keys_end noted edits c.in_ok-note.ensures.ok (c.rise.ensures c.if-not-rise.false) in
-    root_part m.root c.carry-carried.new.self noted c.carry-carried.new.note (length c.rest-noted.result.now) rise c.in-Err.ensures.err ∙ edited_as_told (root_entries m.root) noted edits c.in_ok-note.ensures.ok ∙ ap (λ es. edited_all es edits) (sym (no_edits (root_entries m.root) m.pending none) ∙ c.self.view_is)
+    let rise = rises_plainly 0 keys_end noted edits c.in_ok-note.ensures.ok (c.rise.ensures c.if-not-rise.false) in
+    root_part m.root c.carry-carried.new.self noted c.carry-carried.new.note (length c.rest-noted.result.now) rise c.in-Err.ensures.err ∙ edited_plainly (root_entries m.root) noted edits c.in_ok-note.ensures.ok ∙ ap (λ es. edited_all es edits) (sym (no_edits (root_entries m.root) m.pending none) ∙ c.self.view_is)
