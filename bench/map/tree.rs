@@ -202,7 +202,7 @@ type Node6<V> = Node<Node5<V>>;
 type Root<V> = Node<Node6<V>>;
 
 trait Walk<'a, V, L: Level<V>> {
-    fn begin(node: &'a L, base: u32) -> Self;
+    fn begin(node: &'a L, base: u32, from: u32, shift: u32) -> Self;
     fn step(&mut self, shift: u32) -> Option<(u32, &'a V)>;
 }
 
@@ -220,8 +220,8 @@ struct NodeWalk<'a, L, W> {
 }
 
 impl<'a, V> Walk<'a, V, Leaf<V>> for LeafWalk<'a, V> {
-    fn begin(leaf: &'a Leaf<V>, base: u32) -> Self {
-        LeafWalk { leaf, at: 0, base }
+    fn begin(leaf: &'a Leaf<V>, base: u32, from: u32, _shift: u32) -> Self {
+        LeafWalk { leaf, at: from & 15, base }
     }
 
     fn step(&mut self, _shift: u32) -> Option<(u32, &'a V)> {
@@ -232,8 +232,10 @@ impl<'a, V> Walk<'a, V, Leaf<V>> for LeafWalk<'a, V> {
 }
 
 impl<'a, V, L: Level<V>, W: Walk<'a, V, L>> Walk<'a, V, Node<L>> for NodeWalk<'a, L, W> {
-    fn begin(node: &'a Node<L>, base: u32) -> Self {
-        NodeWalk { node, at: 0, base, inner: None }
+    fn begin(node: &'a Node<L>, base: u32, from: u32, shift: u32) -> Self {
+        let at = place(from, shift);
+        let inner = node.places.get(at).map(|child| W::begin(child, base + (at << shift), from, shift - 4));
+        NodeWalk { node, at: at + 1, base, inner }
     }
 
     fn step(&mut self, shift: u32) -> Option<(u32, &'a V)> {
@@ -244,7 +246,7 @@ impl<'a, V, L: Level<V>, W: Walk<'a, V, L>> Walk<'a, V, Node<L>> for NodeWalk<'a
                 }
             }
             let (n, child) = self.node.places.next(self.at)?;
-            self.inner = Some(W::begin(child, self.base + (n << shift)));
+            self.inner = Some(W::begin(child, self.base + (n << shift), 0, shift - 4));
             self.at = n + 1;
         }
     }
@@ -490,8 +492,20 @@ fn main() {
             let map = random_map(100_000);
             let mut count: u64 = 0;
             for _ in 0..rounds {
-                let mut walk = RootWalk::begin(&map.root, 0);
+                let mut walk = RootWalk::begin(&map.root, 0, 0, 28);
                 while let Some((key, value)) = walk.step(28) {
+                    count = count.wrapping_add(u64::from(key) ^ *value);
+                }
+            }
+            count
+        }
+        "entries_from" => {
+            let map = random_map(100_000);
+            let mut draws = Draws::start();
+            let mut count: u64 = 0;
+            for _ in 0..rounds * 10_000 {
+                let mut walk = RootWalk::begin(&map.root, 0, draws.next() ^ 1, 28);
+                if let Some((key, value)) = walk.step(28) {
                     count = count.wrapping_add(u64::from(key) ^ *value);
                 }
             }

@@ -26,6 +26,14 @@ fn listed(alloc: Global, map: &Map<u64>) -> Result<Vec<(u32, u64)>, Fail> {
     Ok(all)
 }
 
+fn listed_from(alloc: Global, map: &Map<u64>, from: u32) -> Result<Vec<(u32, u64)>, Fail> {
+    let mut all = Vec::new(alloc);
+    for (key, value) in map.entries_from(from) {
+        all.push((key, *value))?;
+    }
+    Ok(all)
+}
+
 fn found(alloc: Global, map: &Map<u64>, keys: &[u32]) -> Result<Vec<Option<u64>>, Fail> {
     let mut all = Vec::new(alloc);
     for value in map.find_all(keys) {
@@ -110,6 +118,64 @@ fn find_all_answers_in_the_order_of_the_keys(rt: HostRuntime) -> Result<(), Fail
     Ok(())
 }
 
+// Keys at the ends of a leaf and of nodes above, each with itself as its value.
+const BORDERS: [(u32, u64); 10] = [
+    (0, 0),
+    (15, 15),
+    (16, 16),
+    (255, 255),
+    (256, 256),
+    (65_535, 65_535),
+    (65_536, 65_536),
+    (0x0fff_ffff, 0x0fff_ffff),
+    (0x1000_0000, 0x1000_0000),
+    (LAST, 0xffff_ffff),
+];
+
+// How many of them lie below a key.
+const STARTS: [(&str, u32, usize); 14] = [
+    ("at the first key", 0, 0),
+    ("behind the first key", 1, 1),
+    ("at the last key of a leaf", 15, 1),
+    ("at the first key of the next leaf", 16, 2),
+    ("within a leaf, behind its key", 17, 3),
+    ("at the last key of sixteen leaves", 255, 3),
+    ("at the first key behind sixteen leaves", 256, 4),
+    ("in an empty leaf", 4_096, 5),
+    ("at the last key below 2^16", 65_535, 5),
+    ("at 2^16", 65_536, 6),
+    ("at the last key of the root's first slot", 0x0fff_ffff, 7),
+    ("at the first key of the root's second slot", 0x1000_0000, 8),
+    ("in an empty slot of the root", 0xc000_0000, 9),
+    ("at the greatest key", LAST, 9),
+];
+
+fn borders_behind(alloc: Global, below: usize) -> Result<Vec<(u32, u64)>, Fail> {
+    let mut all = Vec::new(alloc);
+    for entry in BORDERS.iter().skip(below) {
+        all.push(*entry)?;
+    }
+    Ok(all)
+}
+
+#[test]
+fn entries_from_begin_at_the_key_or_behind_it(rt: HostRuntime) -> Result<(), Fail> {
+    let alloc = rt.alloc();
+    let map = map_of(alloc, &BORDERS)?;
+    for (name, from, below) in STARTS {
+        let left = listed_from(alloc, &map, from)?;
+        assert!(rt; left == borders_behind(alloc, below)?, "{name}");
+    }
+    assert_eq!(rt;
+        map.without(LAST)?
+            .entries_from(0x1000_0001)
+            .next()
+            .is_some(),
+        false
+    );
+    Ok(())
+}
+
 fn len_in_a_thread(rt: &impl Threads, map: Map<u64>) -> Result<usize, AllocError> {
     let child = thread::spawn(rt, move || map.len())?;
     Ok(child.join(rt))
@@ -190,6 +256,8 @@ fn random_edits_agree_with_a_sorted_map(rt: HostRuntime) -> Result<(), Fail> {
         listed(alloc, &pair.map)?.as_slice(),
         pair.wanted(alloc)?.as_slice()
     );
+    let starts = [0, 1, 599, 7_158_279, 2_147_483_648, 4_287_809_121, LAST];
+    assert!(rt; pair.agrees_from(alloc, &starts)?);
     for (map, entries) in kept.iter().zip(wanted.iter()) {
         assert_eq!(rt; listed(alloc, map)?.as_slice(), entries.as_slice());
     }
@@ -253,6 +321,22 @@ impl Pair {
         Ok(listed(alloc, &self.map)? == wanted && self.map.len() == wanted.len())
     }
 
+    // Whether the map has the entries of std's from each of the keys on.
+    fn agrees_from(&self, alloc: Global, keys: &[u32]) -> Result<bool, Fail> {
+        for from in keys {
+            let mut wanted = Vec::new(alloc);
+            for (key, value) in &self.model {
+                if *key >= *from {
+                    wanted.push((*key, *value))?;
+                }
+            }
+            if listed_from(alloc, &self.map, *from)? != wanted {
+                return Ok(false);
+            }
+        }
+        Ok(true)
+    }
+
     // Whether the map has the value of std's at each of the keys, one by one and all at once.
     fn agrees_at(&self, alloc: Global, keys: &[u32]) -> Result<bool, Fail> {
         let values = found(alloc, &self.map, keys)?;
@@ -284,6 +368,7 @@ fn many_rising_edits_agree_with_a_sorted_map(rt: HostRuntime) -> Result<(), Fail
             pair.edit_all(&rising_edits(alloc, step, first)?)?;
             assert!(rt; pair.agrees(alloc)?, "{name}");
             assert!(rt; pair.agrees_at(alloc, &[0, step, 5, LAST])?, "{name}");
+            assert!(rt; pair.agrees_from(alloc, &[0, step, 50, LAST])?, "{name}");
         }
         assert!(rt; listed(alloc, &kept)? == before, "{name}");
     }

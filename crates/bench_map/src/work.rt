@@ -23,6 +23,8 @@ pub(crate) enum Work {
     FindAll(Line),
     /// One walk over 100,000 entries.
     Entries,
+    /// 10,000 walks of one entry, each from a random key on.
+    EntriesFrom,
 }
 
 /// Which keys.
@@ -49,6 +51,7 @@ impl Work {
             "find_all_flat" => Some(Work::FindAll(Line::Flat)),
             "find_all_window" => Some(Work::FindAll(Line::Window)),
             "entries" => Some(Work::Entries),
+            "entries_from" => Some(Work::EntriesFrom),
             _ => None,
         }
     }
@@ -98,6 +101,7 @@ pub(crate) fn run(alloc: Global, rounds: u32, work: Work) -> Result<u64, Memory>
         Work::Get => get(alloc, rounds),
         Work::FindAll(line) => find_all(alloc, rounds, line),
         Work::Entries => entries(alloc, rounds),
+        Work::EntriesFrom => entries_from(alloc, rounds),
     }
 }
 
@@ -178,6 +182,19 @@ fn entries(alloc: Global, rounds: u32) -> Result<u64, Memory> {
     for _n in 0..rounds {
         for (key, value) in map.entries() {
             count = count.wrapping_add(u64::from(key) ^ *value);
+        }
+    }
+    Ok(count)
+}
+
+fn entries_from(alloc: Global, rounds: u32) -> Result<u64, Memory> {
+    let map = random_map(alloc, 100_000)?;
+    let mut draws = Draws::start();
+    let mut count: u64 = 0;
+    for _n in 0..rounds.saturating_mul(10_000) {
+        match map.entries_from(draws.next() ^ 1).next() {
+            Some((key, value)) => count = count.wrapping_add(u64::from(key) ^ *value),
+            None => {}
         }
     }
     Ok(count)
