@@ -51,7 +51,7 @@ impl<'a, V> Model for Entries<'a, V> {
 }
 
 impl<'a, V: Drop> Entries<'a, V> {
-    /// The entries of the tree after the edits, from this key on.
+    /// The entries of the tree after the edits whose key is at least `from`.
     pub(crate) fn of(root: &'a Root<V>, pending: &'a [Edit<V>], from: u32) -> Entries<'a, V>
         requires { Rises 0 keys_end pending.now }
         ensures { result ≡ entries_from from (edited_all (root_entries root.now) pending.now) }
@@ -181,8 +181,8 @@ pub(crate) trait Walk<'a, V, L: Level<V>>: Drop {
 
     ghost sound: { Self → Type 0 };
 
-    /// A walk over the entries of the node, whose keys are counted from `base`: those from the key
-    /// on that the low bits of `from` are in its block.
+    /// A walk over the entries of the node whose keys, as its block counts them, are at least what
+    /// the low bits of `from` say. It counts keys from `base`.
     fn begin(node: &'a L, base: u32, from: u32, shift: u32) -> Self
         requires level { shift ≡ L.bits }
         requires small { shift ≤ 28 }
@@ -298,7 +298,8 @@ fn step_inner<'a, V, L: Level<V>, W: Walk<'a, V, L>>(
     }
 }
 
-// A walk over the child in slot `n` of a node whose keys are counted from `base`, from a key on.
+// A walk over the child in slot `n` of a node whose keys are counted from `base`: its entries from
+// the key on that the low bits of `from` say.
 fn child_walk<'a, V, L: Level<V>, W: Walk<'a, V, L>>(
     child: &'a L,
     base: u32,

@@ -80,8 +80,8 @@ impl<V: Drop> Map<V> {
         self.entries_from(0)
     }
 
-    /// The entries by rising key, from the least one on that is not below `from`. The way to it
-    /// leads down the tree once, whatever the map has below it.
+    /// The entries whose key is at least `from`, by rising key. One way down the tree leads to the
+    /// first of them, however many lie before it.
     pub fn entries_from(&self, from: u32) -> Entries<'_, V>
         ensures value { result ≡ entries_from from self.now }
         ensures kept { Rises 0 keys_end self.now }

@@ -58,7 +58,7 @@ fn search<V>(edits: &[Edit<V>], key: u32) -> Option<&Option<Arc<V>>>
     if edit.0 == key { Some(&edit.1) } else { None }
 }
 
-/// The edits from a key on.
+/// The edits whose key is at least `from`.
 pub(crate) fn edits_from<V>(edits: &[Edit<V>], from: u32) -> &[Edit<V>]
     requires { Rises 0 keys_end edits.now }
     ensures { result.now ≡ entries_from from edits.now }
