@@ -1,30 +1,27 @@
--- A tile with a segment more, or less, is a tile: what was drawn for it is what it has to keep.
-use Rattle.std.proofs.Common.{◌≡◌, refl, ap, sym, ◌∙◌, subst, ℕ, zero, suc, ◌+◌, ◌<◌, ◌≤◌, arith, Bool, true, false, cond, Ordering, Less, Equal, Greater, is_lt, is_eq, List, [], ◌∷◌, ◌++◌, map, length, get_or, take, drop, Option, Some, None, length-append, add-one}
+-- A tile with a segment more, or less, is a tile: what was made for it is what it has to keep.
+use Rattle.std.proofs.Common.{◌≡◌, refl, ap, sym, ◌∙◌, ℕ, zero, suc, ◌+◌, ◌<◌, ◌≤◌, arith, false, Ordering, Less, Equal, Greater, is_lt, is_eq, List, [], ◌∷◌, ◌++◌, map, length, take, drop, Option, Some, None, length-append, add-one}
 use Rattle.std.specs.Prelude.{not, Contains, IsTrue, Box}
 use Rattle.std.specs.Global.{Global}
 use Rattle.std.specs.List.{filter, AllByRecursion}
-use Rattle.std.specs.List.Sorted.{IsStrictlySortedBy}
-use Rattle.std.specs.Ordering.{ordering_reverse, nat_cmp}
-use Rattle.std.proofs.lemmas.List.{map-append, take-append-drop, length-drop}
+use Rattle.std.specs.Ordering.{ordering_reverse}
+use Rattle.std.proofs.lemmas.List.{map-append, take-append-drop}
 use Rattle.grid_core.specs.Name.{Label, label_cmp, label_eq}
-use Rattle.grid_core.specs.Profile.{IsProfile}
 use Rattle.grid_core.specs.Segment.{Segment, IsSegment}
 use Rattle.grid_core.specs.LiveList.{names, with_segment, without_name}
-use Rattle.grid_core.specs.Tiles.{meets_tile, near}
-use Rattle.grid_core.proofs.Order.{label_total, label_exact}
+use Rattle.grid_core.specs.Tiles.{meets_tile}
+use Rattle.grid_core.proofs.Order.{label_total}
 use Rattle.grid_core.proofs.Filters.{same_kept, filter_length}
 use Rattle.grid_core.proofs.LiveLists.{with_segment_is_live, without_name_is_live}
 use Rattle.tile_law.proofs.OneMore.{near_all_with}
 use Rattle.tile_law.proofs.OneMoreCounts.{new_from_none}
 use Rattle.tile_law.proofs.OneLess.{near_all_without}
 use Rattle.hot_tile.specs.declared.spots.Spot.{Spot}
-use Rattle.hot_tile.specs.declared.tile.Drawn.{Drawn}
-use Rattle.hot_tile.specs.Spots.{keys, merged, fresh_keys}
-use Rattle.hot_tile.specs.Own.{own_spots}
+use Rattle.hot_tile.specs.declared.tile.HotPart.{HotPart}
+use Rattle.hot_tile.specs.Spots.{keys}
 use Rattle.hot_tile.specs.Steps.{grown_row}
 use Rattle.hot_tile.specs.Tile.{TileContent, IsTile, frame_of, spots_in, rows_in, path_in}
 use Rattle.hot_tile.specs.Paths.{grown_path, grown_paths, thinned_path, thinned_paths}
-use Rattle.hot_tile.specs.Drawn.{Draws, drawn_spots, drawn_rows}
+use Rattle.hot_tile.specs.HotPart.{IsHotPart, part_spots, part_rows}
 
 -- ---- the list with a segment more
 
@@ -64,20 +61,20 @@ module _ (ss : List Segment) (s : Segment) (at : ℕ)
         length-append (take at ss) (drop at ss),
       )
 
--- ---- what was drawn
+-- ---- what was made
 
-nothing_drawn : (ss : List Segment) (f : Segment → List ℕ) → AllByRecursion (λ u. f u ≡ []) ss → map (λ s. []) ss ≡ map f ss
-nothing_drawn [] f h = refl
-nothing_drawn (s ∷ ss) f h = λ i. sym h.0 i ∷ nothing_drawn ss f h.1 i
+none_made : (ss : List Segment) (f : Segment → List ℕ) → AllByRecursion (λ u. f u ≡ []) ss → map (λ s. []) ss ≡ map f ss
+none_made [] f h = refl
+none_made (s ∷ ss) f h = λ i. sym h.0 i ∷ none_made ss f h.1 i
 
--- what was drawn is what the tile has to keep
-drawn_is : (t : TileContent) (d : Option (Box Drawn Global)) (hot : List Spot) (paths : List (List ℕ))
-    → Draws d hot paths → hot ≡ spots_in t → rows_in t ≡ map (path_in t) t.segments → paths ≡ map (path_in t) t.segments
+-- what was made is what the tile has to keep
+part_is : (t : TileContent) (d : Option (Box HotPart Global)) (hot : List Spot) (paths : List (List ℕ))
+    → IsHotPart d hot paths → hot ≡ spots_in t → rows_in t ≡ map (path_in t) t.segments → paths ≡ map (path_in t) t.segments
     → (spots_in t ≡ [] → AllByRecursion (λ u. path_in t u ≡ []) t.segments)
-    → (drawn_spots d ≡ spots_in t) × (drawn_rows t.segments d ≡ rows_in t)
-drawn_is t None hot paths none spots rows drawn empty =
-    (sym none ∙ spots, nothing_drawn t.segments (path_in t) (empty (sym spots ∙ none)) ∙ sym rows)
-drawn_is t (Some d) hot paths both spots rows drawn empty = (both.0 ∙ spots, both.1 ∙ drawn ∙ sym rows)
+    → (part_spots d ≡ spots_in t) × (part_rows t.segments d ≡ rows_in t)
+part_is t None hot paths none spots rows hot_part empty =
+    (sym none ∙ spots, none_made t.segments (path_in t) (empty (sym spots ∙ none)) ∙ sym rows)
+part_is t (Some d) hot paths both spots rows hot_part empty = (both.0 ∙ spots, both.1 ∙ hot_part ∙ sym rows)
 
 map_alike : (f g : Segment → List ℕ) (ss : List Segment) → AllByRecursion (λ u. f u ≡ g u) ss → map f ss ≡ map g ss
 map_alike f g [] h = refl
@@ -116,16 +113,16 @@ module _ {t : TileContent} {s : Segment} {at : ℕ} {hot : List Spot} {paths : L
       ∙ sym (map-append (path_in (more t s)) (take at t.segments) (s ∷ drop at t.segments))
       ∙ ap (map (path_in (more t s))) (put_in t.segments s at c.lesser c.others c.new)
 
-  -- what was drawn with the segment is what the tile with the segment has to keep
-  pub grown_is_tile : (now : List Spot) (d : Option (Box Drawn Global)) → Draws d now (grown_paths t at s (keys now) fresh)
+  -- what was made with the segment is what the tile with the segment has to keep
+  pub grown_is_tile : (now : List Spot) (d : Option (Box HotPart Global)) → IsHotPart d now (grown_paths t at s (keys now) fresh)
       → now ≡ spots_in (more t s)
       → rows_in (more t s) ≡ map (path_in (more t s)) (with_segment t.segments s)
       → AllByRecursion (λ u. grown_path t fresh u ≡ path_in (more t s) u) t.segments
       → grown_row (frame_of t) s [] (keys now) ≡ path_in (more t s) s
       → (spots_in (more t s) ≡ [] → AllByRecursion (λ u. path_in (more t s) u ≡ []) (with_segment t.segments s))
-      → IsTile (more t s) (drawn_spots d) (drawn_rows (with_segment t.segments s) d)
-  grown_is_tile now d drawn spots rows old own empty =
-      let kept = drawn_is (more t s) d now (grown_paths t at s (keys now) fresh) drawn spots rows (grown_paths_are (keys now) old own) empty in
+      → IsTile (more t s) (part_spots d) (part_rows (with_segment t.segments s) d)
+  grown_is_tile now d hot_part spots rows old own empty =
+      let kept = part_is (more t s) d now (grown_paths t at s (keys now) fresh) hot_part spots rows (grown_paths_are (keys now) old own) empty in
       record {
         content =
             record {
@@ -157,15 +154,15 @@ module _ {t : TileContent} {hot : List Spot} {paths : List (List ℕ)} (inv : Is
       ∙ ap (λ n. map (path_in (fewer t name)) (take at t.segments ++ drop n t.segments)) (add-one at)
       ∙ ap (map (path_in (fewer t name))) out
 
-  -- what was drawn without the segment is what the tile without it has to keep
-  pub shrunk_is_tile : (now : List Spot) (d : Option (Box Drawn Global)) → Draws d now (thinned_paths t at cold)
+  -- what was made without the segment is what the tile without it has to keep
+  pub shrunk_is_tile : (now : List Spot) (d : Option (Box HotPart Global)) → IsHotPart d now (thinned_paths t at cold)
       → now ≡ spots_in (fewer t name)
       → rows_in (fewer t name) ≡ map (path_in (fewer t name)) (without_name t.segments name)
       → AllByRecursion (λ u. thinned_path t cold u ≡ path_in (fewer t name) u) t.segments
       → (spots_in (fewer t name) ≡ [] → AllByRecursion (λ u. path_in (fewer t name) u ≡ []) (without_name t.segments name))
-      → IsTile (fewer t name) (drawn_spots d) (drawn_rows (without_name t.segments name) d)
-  shrunk_is_tile now d drawn spots rows old empty =
-      let kept = drawn_is (fewer t name) d now (thinned_paths t at cold) drawn spots rows (thinned_paths_are old) empty in
+      → IsTile (fewer t name) (part_spots d) (part_rows (without_name t.segments name) d)
+  shrunk_is_tile now d hot_part spots rows old empty =
+      let kept = part_is (fewer t name) d now (thinned_paths t at cold) hot_part spots rows (thinned_paths_are old) empty in
       record {
         content =
             record {

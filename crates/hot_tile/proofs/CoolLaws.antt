@@ -1,11 +1,12 @@
 -- Spots less what others take away, and rows less the steps that are gone: the steps of two loops
 -- over two lists in order.
-use Rattle.std.proofs.Common.{◌≡◌, refl, ap, sym, ◌∙◌, subst, ℕ, ◌+◌, ◌-◌, ◌<◌, arith, Bool, true, false, cond, List, [], ◌∷◌, ◌++◌, map, length, get_or, drop, append_assoc, nat_eq}
-use Rattle.std.specs.Prelude.{sum_by, not, ◌||◌, ◌&&◌}
+use Rattle.std.proofs.Common.{◌≡◌, refl, ap, sym, ◌∙◌, subst, ℕ, ◌+◌, ◌-◌, ◌<◌, ◌≤◌, ◌⊎◌, inl, inr, arith, true, false, cond, List, [], ◌∷◌, ◌++◌, map, length, get_or, take, drop, append_assoc, nat_eq}
+use Rattle.std.specs.Prelude.{sum_by, not, ◌||◌}
 use Rattle.std.specs.List.{filter, AllByRecursion}
 use Rattle.std.proofs.lemmas.Bool.Decides.{nat_tests}
-use Rattle.std.proofs.lemmas.List.{drop_more}
+use Rattle.std.proofs.lemmas.List.{drop_more, drop_all, length-drop, take_all}
 use Rattle.std.proofs.lemmas.List.Sums.{sum_by-cons}
+use Rattle.grid_core.proofs.Filters.{every_kept}
 use Rattle.hot_tile.specs.declared.spots.Spot.{Spot}
 use Rattle.hot_tile.specs.Spots.{keys, has_key, ends_counted, crossings_counted, less, is_cold, cooled, cold_keys}
 use Rattle.hot_tile.specs.Steps.{thinned_row}
@@ -231,3 +232,19 @@ module _ {old gone : List ℕ} {i j : ℕ} {out : List ℕ} (m : IsThinning old 
         ∙ thinned_but (get_or gone j d) (drop (j + 1) gone) (drop (i + 1) old) above))
         ∙ m.steps;
   }
+
+  all_kept_of : (ks : List ℕ) → AllByRecursion (λ (k : ℕ). true ≡ true) ks
+  all_kept_of [] = tt
+  all_kept_of (k ∷ ks) = (refl, all_kept_of ks)
+
+  -- where no step is left, or nothing that is gone, the others stay
+  pub keeps_rest : (length old ≤ i) ⊎ (length gone ≤ j) → out ++ take (length old - i) (drop i old) ≡ thinned_row gone old
+  keeps_rest ended = ap (λ ks. out ++ ks) (take_all (length old - i) (drop i old) (omega (arith, length-drop i old))) ∙ rest_kept ended
+    where
+      rest_kept : (length old ≤ i) ⊎ (length gone ≤ j) → out ++ drop i old ≡ thinned_row gone old
+      rest_kept (inl h) =
+          (λ k. out ++ drop_all i old h k) ∙ sym (λ k. out ++ thinned_row (drop j gone) (drop_all i old h k)) ∙ m.steps
+      rest_kept (inr h) =
+          sym (ap (λ gs. out ++ thinned_row gs (drop i old)) (drop_all j gone h)
+          ∙ ap (λ zs. out ++ zs) (every_kept (λ k. true) (drop i old) (all_kept_of (drop i old))))
+          ∙ m.steps

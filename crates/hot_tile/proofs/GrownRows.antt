@@ -128,7 +128,7 @@ module _ (f : TileFrame) (profile : IsProfile f.profile) where
         here_by_member : (hs : List Point) (h : Point) → AllByRecursion (LiesHere f) hs → Contains hs h → LiesHere f h
         here_by_member hs h a c = all_at (LiesHere f) hs h a c
 
-    route_on_row : (hs : List Point) → AllByRecursion (LiesHere f) hs → AllByRecursion IsOnRow (route_among hs u)
+    pub route_on_row : (hs : List Point) → AllByRecursion (LiesHere f) hs → AllByRecursion IsOnRow (route_among hs u)
     route_on_row hs a = folded [] (filter (meets_pixel_of u) hs) tt (met_on_row hs a)
       where
         folded : (done ks : List Point) → AllByRecursion IsOnRow done → AllByRecursion IsOnRow ks

@@ -1,7 +1,7 @@
 -- Whether a pixel lies in a tile, by its coordinates.
 -- Each coordinate apart: the quotient by the side is the tile's number exactly where the coordinate is from the first of
 -- the tile to the last.
-use Rattle.std.proofs.Common.{◌≡◌, refl, ap, sym, ◌∙◌, subst, ℕ, ◌<◌, ◌+◌, ◌*◌, arith, Bool, true, false, cond, Equal, is_eq, Some, None}
+use Rattle.std.proofs.Common.{◌≡◌, refl, ap, sym, ◌∙◌, subst, ℕ, ◌<◌, ◌+◌, ◌*◌, arith, Bool, true, false, cond, is_eq, Some, None}
 use Rattle.std.specs.Prelude.{ℤ, pos, ◌-ℤ◌, ◌+ℤ◌, ◌*ℤ◌, ◌≤ℤ◌, ◌<ℤ◌, ◌&&◌, ◌↔◌, ◌⊎◌, ◌^◌, int_le, int_lt, IsTrue, unsigned_abs, ◌≤◌}
 use Rattle.std.specs.Int.{int_div_euclid, int_min, int_max}
 use Rattle.std.specs.Ordering.{int_cmp}

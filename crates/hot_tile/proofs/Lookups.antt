@@ -7,13 +7,13 @@ use Rattle.std.specs.Cmp.{IsTotalOrder}
 use Rattle.std.specs.List.{filter, AllByRecursion}
 use Rattle.std.specs.List.Sorted.{IsStrictlySortedBy}
 use Rattle.std.specs.Ordering.{ordering_reverse}
-use Rattle.std.proofs.lemmas.List.{take-append-drop, drop_more, drop_all, take_all}
+use Rattle.std.proofs.lemmas.List.{take-append-drop, drop_more, drop_all}
 use Rattle.std.proofs.lemmas.List.Elements.{filter-append}
-use Rattle.std.proofs.lemmas.Map.Keys.{sorted_head, sorted_tail}
+use Rattle.std.proofs.lemmas.Map.Keys.{sorted_head}
 use Rattle.grid_core.specs.Name.{Label, label_eq}
 use Rattle.grid_core.specs.Segment.{Segment}
 use Rattle.grid_core.specs.LiveList.{names}
-use Rattle.grid_core.proofs.Comparisons.{is_less, is_equal, label_decides}
+use Rattle.grid_core.proofs.Comparisons.{is_less, label_decides}
 use Rattle.grid_core.proofs.ListMembers.{contains_first, contains_later, contains_cases}
 use Rattle.grid_core.proofs.Filters.{all_kept, none_kept}
 

@@ -1,11 +1,11 @@
 -- Spots counted one by one: their keys stay in order, and no count is greater than their number.
-use Rattle.std.proofs.Common.{◌≡◌, refl, ap, sym, ◌∙◌, subst, ℕ, ◌+◌, ◌*◌, ◌≤◌, arith, Bool, true, false, Ordering, Less, Equal, Greater, List, [], ◌∷◌, ◌++◌, map, length, fold, ◌<◌, ◌^◌, Option, Some, None, append_assoc, length-append, take, get_or}
-use Rattle.std.specs.List.{AllByRecursion, All, flat_map}
+use Rattle.std.proofs.Common.{◌≡◌, refl, ap, sym, ◌∙◌, subst, ℕ, ◌+◌, ◌≤◌, arith, Ordering, Less, Equal, Greater, List, [], ◌∷◌, ◌++◌, length, fold, ◌<◌, ◌^◌, Option, Some, None, append_assoc, length-append, take, get_or}
+use Rattle.std.specs.List.{AllByRecursion, All}
 use Rattle.std.specs.List.Sorted.{IsStrictlySortedBy}
 use Rattle.std.specs.Ordering.{nat_cmp, match_ordering}
 use Rattle.std.specs.BTreeSet.{insert_key}
 use Rattle.std.proofs.lemmas.Cmp.{nat_cmp_total}
-use Rattle.std.proofs.lemmas.List.{take_more, length-take-le}
+use Rattle.std.proofs.lemmas.List.{take_more}
 use Rattle.std.proofs.lemmas.List.Elements.{All-from_recursion}
 use Rattle.std.proofs.lemmas.List.Sums.{fold-append}
 use Rattle.grid_core.specs.declared.point.Point.{Point}
@@ -14,7 +14,7 @@ use Rattle.grid_core.specs.Rounding.{crossing_pixel}
 use Rattle.grid_core.proofs.RisingMembers.{sorted_inserted}
 use Rattle.hot_tile.specs.declared.spots.Spot.{Spot}
 use Rattle.hot_tile.specs.Frame.{TileFrame, key_in}
-use Rattle.hot_tile.specs.Spots.{keys, both, counted, merged, IsSmall}
+use Rattle.hot_tile.specs.Spots.{keys, both, counted, IsSmall}
 use Rattle.hot_tile.specs.Own.{one_end, one_crossing, of_some, end_spot, pixel_spot, crossing_spot, end_spots, crossing_spots, own_spots}
 
 -- one counted more is a key more

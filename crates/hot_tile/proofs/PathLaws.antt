@@ -1,7 +1,6 @@
 -- The passes of the segments between two indices, one segment more; and rows that stay in order.
-use Rattle.std.proofs.Common.{◌≡◌, refl, ap, sym, ◌∙◌, subst, ℕ, ◌+◌, ◌-◌, ◌<◌, ◌≤◌, ◌^◌, arith, Bool, true, false, List, [], ◌∷◌, ◌++◌, map, length, get_or, take, drop, fold, append_assoc, nat_eq}
-use Rattle.std.specs.Prelude.{not, if◌then◌else◌, All}
-use Rattle.std.specs.List.{filter, AllByRecursion}
+use Rattle.std.proofs.Common.{◌≡◌, refl, ap, sym, ◌∙◌, ℕ, ◌+◌, ◌-◌, ◌<◌, ◌≤◌, arith, true, List, [], ◌∷◌, ◌++◌, map, length, get_or, take, drop, fold, append_assoc, nat_eq}
+use Rattle.std.specs.List.{AllByRecursion}
 use Rattle.std.specs.List.Sorted.{IsStrictlySortedBy}
 use Rattle.std.specs.Ordering.{nat_cmp}
 use Rattle.std.specs.BTreeSet.{insert_key}
@@ -9,11 +8,8 @@ use Rattle.std.proofs.lemmas.Bool.Decides.{nat_tests}
 use Rattle.std.proofs.lemmas.Cmp.{nat_cmp_total}
 use Rattle.std.proofs.lemmas.List.{map_more, get_or-drop, length-drop}
 use Rattle.grid_core.specs.Segment.{Segment}
-use Rattle.grid_core.specs.Tiles.{falls}
 use Rattle.grid_core.proofs.Filters.{every_kept}
 use Rattle.grid_core.proofs.RisingMembers.{sorted_inserted}
-use Rattle.hot_tile.specs.Frame.{turned}
-use Rattle.hot_tile.specs.Steps.{thinned_row, turned_keys}
 use Rattle.hot_tile.specs.Tile.{TileContent, path_in}
 use Rattle.hot_tile.specs.Paths.{grown_path, thinned_path}
 
@@ -25,9 +21,6 @@ folded_rises xs (y ∷ ys) s = folded_rises (insert_key nat_cmp xs y) ys (sorted
 pub none_rises : IsStrictlySortedBy nat_cmp []
 unfolding IsStrictlySortedBy
 none_rises = tt
-
-pub turned_rise : (ks : List ℕ) → IsStrictlySortedBy nat_cmp (turned_keys ks)
-turned_rise ks = folded_rises [] (map turned ks) none_rises
 
 -- a list without length is empty
 pub empty_is : (xs : List ℕ) → nat_eq (length xs) 0 ≡ true → xs ≡ []
@@ -61,17 +54,5 @@ all_stay (k ∷ ks) = (refl, all_stay ks)
 
 -- where nothing is cold a row stays
 pub thinned_none : (t : TileContent) (cold : List ℕ) (u : Segment) → cold ≡ [] → path_in t u ≡ thinned_path t cold u
-thinned_none t cold u e = sym (ap (λ ks. thinned_path t ks u) e ∙ by (falls u))
-  where
-    by : (b : Bool) → thinned_row (if b then turned_keys [] else []) (path_in t u) ≡ path_in t u
-    by true = every_kept (λ k. true) (path_in t u) (all_stay (path_in t u))
-    by false = every_kept (λ k. true) (path_in t u) (all_stay (path_in t u))
-
--- a row of a segment that falls, and of one that doesn't
-pub thinned_falling : (t : TileContent) (cold : List ℕ) (u : Segment) → falls u ≡ true
-    → thinned_row (turned_keys cold) (path_in t u) ≡ thinned_path t cold u
-thinned_falling t cold u e = ap (λ b. thinned_row (if b then turned_keys cold else cold) (path_in t u)) (sym e)
-
-pub thinned_other : (t : TileContent) (cold : List ℕ) (u : Segment) → falls u ≡ false
-    → thinned_row cold (path_in t u) ≡ thinned_path t cold u
-thinned_other t cold u e = ap (λ b. thinned_row (if b then turned_keys cold else cold) (path_in t u)) (sym e)
+thinned_none t cold u e =
+    sym (ap (λ ks. thinned_path t ks u) e ∙ every_kept (λ k. true) (path_in t u) (all_stay (path_in t u)))

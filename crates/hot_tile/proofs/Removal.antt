@@ -1,14 +1,14 @@
 -- Where the segment of a name stands in a live list, and the list without it.
 -- What isn't before the name begins with the segment of the name, as the list has it and names rise.
-use Rattle.std.proofs.Common.{◌≡◌, refl, ap, sym, ◌∙◌, subst, ℕ, zero, suc, ◌+◌, ◌-◌, ◌<◌, ◌≤◌, arith, Bool, true, false, cond, Ordering, Less, Equal, Greater, is_lt, is_eq, List, [], ◌∷◌, ◌++◌, map, length, get_or, take, drop, inl, inr}
+use Rattle.std.proofs.Common.{◌≡◌, refl, ap, sym, ◌∙◌, subst, ℕ, zero, suc, ◌<◌, arith, Bool, true, false, cond, Less, Equal, is_lt, is_eq, List, [], ◌∷◌, ◌++◌, length, get_or, take, drop, inl, inr}
 use Rattle.std.specs.Prelude.{not, Contains, ◌⊎◌}
 use Rattle.std.specs.List.{filter, AllByRecursion}
 use Rattle.std.specs.List.Sorted.{IsStrictlySortedBy}
 use Rattle.std.specs.Ordering.{ordering_reverse}
 use Rattle.std.proofs.lemmas.Cmp.{tied_itself}
-use Rattle.std.proofs.lemmas.List.{map-append, take-append-drop, drop_more, length-drop, drop-map, drop_all}
-use Rattle.std.proofs.lemmas.List.Elements.{Contains-append_cases, filter-append, All-contains, All-from_recursion, recursion_from_All}
-use Rattle.std.proofs.lemmas.Map.Keys.{sorted_head, sorted_tail}
+use Rattle.std.proofs.lemmas.List.{map-append, take-append-drop}
+use Rattle.std.proofs.lemmas.List.Elements.{Contains-append_cases, filter-append, All-contains, All-from_recursion}
+use Rattle.std.proofs.lemmas.Map.Keys.{sorted_head}
 use Rattle.grid_core.specs.Name.{Label, label_cmp, label_eq}
 use Rattle.grid_core.specs.Segment.{Segment}
 use Rattle.grid_core.specs.LiveList.{names, without_name}
@@ -143,3 +143,13 @@ module _ (ss : List Segment) (name : Label) (at : ℕ) (order : IsStrictlySorted
       ∙ (λ i. filter (λ u. not (label_eq u.name name)) (take at ss) ++ filter (λ u. not (label_eq u.name name)) (sym first.2 i))
       ∙ sym (filter-append (λ u. not (label_eq u.name name)) (take at ss) (drop at ss))
       ∙ ap (λ us. without_name us name) (take-append-drop at ss)
+
+-- a list whose only segment goes is empty
+pub alone : (ss : List Segment) (name : Label) → length ss ≡ 1 → Contains (names ss) name → [] ≡ without_name ss name
+alone [] name e c = absurd (omega (arith, e))
+alone (s ∷ []) name e c = by (contains_cases s.name [] name c)
+  where
+    by : (s.name ≡ name) ⊎ Contains [] name → [] ≡ without_name (s ∷ []) name
+    by (inl same) = sym (ap (λ r. cond (not (is_eq r)) (s ∷ []) []) (ap (label_cmp s.name) (sym same) ∙ itself s.name))
+    by (inr none) = absurd (omega (arith, none.1))
+alone (s ∷ t ∷ ss) name e c = absurd (omega (arith, e))

@@ -10,12 +10,15 @@ use Rattle.std.specs.Ordering.{eq_by_cmp}
 use Rattle.std.proofs.lemmas.Bool.Decides.{nat_tests}
 use Rattle.std.proofs.lemmas.Cmp.{nat_cmp_total}
 use Rattle.grid_core.specs.declared.point.Point.{Point}
+use Rattle.grid_core.specs.Vector.{point_cmp}
 use Rattle.grid_core.specs.Profile.{IsProfile}
 use Rattle.grid_core.specs.Name.{label_cmp}
 use Rattle.grid_core.specs.Segment.{Segment}
 use Rattle.grid_core.specs.LiveList.{names, without_name}
+use Rattle.grid_core.specs.Meets.{meets_pixel_of}
 use Rattle.grid_core.specs.Rounding.{hot}
 use Rattle.grid_core.specs.Tiles.{in_tile, falls}
+use Rattle.grid_core.proofs.Filters.{same_kept}
 use Rattle.grid_core.proofs.ListMembers.{contains_filter}
 use Rattle.grid_core.proofs.Order.{point_total, point_exact}
 use Rattle.grid_core.proofs.RisingMembers.{any_rising, any_iff}
@@ -25,10 +28,10 @@ use Rattle.hot_tile.specs.declared.spots.Spot.{Spot}
 use Rattle.hot_tile.specs.Frame.{TileFrame, key_of, step_of, turned}
 use Rattle.hot_tile.specs.Spots.{keys, has_key, less, is_cold, cold_keys}
 use Rattle.hot_tile.specs.Own.{own_spots}
-use Rattle.hot_tile.specs.Steps.{thinned_row, turned_keys}
+use Rattle.hot_tile.specs.Steps.{meets_key, grown_row, thinned_row}
 use Rattle.hot_tile.specs.Tile.{TileContent, frame_of, path_in, spots_in}
-use Rattle.hot_tile.proofs.FrameLaws.{turned_back}
-use Rattle.hot_tile.proofs.GrownRows.{LiesHere, all_here, filter_images, key_found, path_is, same_tests}
+use Rattle.hot_tile.proofs.FrameLaws.{turned_back, pixel_back}
+use Rattle.hot_tile.proofs.GrownRows.{LiesHere, all_here, filter_images, key_found, path_is, route_on_row, same_tests}
 use Rattle.hot_tile.proofs.PartCounts.{keys_of_spots, spots_are_spots}
 use Rattle.hot_tile.proofs.ShrunkSpots.{keys_left, shrunk_spots}
 
@@ -106,20 +109,40 @@ turned_tests j k = by (nat_eq j k) refl (nat_eq (turned j) (turned k)) refl
         absurd (true≢false (sym (itself j k (sym (turned_back j) ∙ ap turned (equal (turned j) (turned k) g) ∙ turned_back k)) ∙ e))
     by false e false g = refl
 
-turned_found : (ks : List ℕ) (k : ℕ) → has_key (map turned ks) (turned k) ≡ has_key ks k
-turned_found [] k = refl
-turned_found (j ∷ ks) k = λ i. turned_tests j k i || turned_found ks k i
-
--- a step is gone where its key is cold
-gone_at : (u : Segment) (cold : List ℕ) (k : ℕ)
-    → has_key (if falls u then turned_keys cold else cold) (step_of u k) ≡ has_key cold k
-gone_at u cold k = by (falls u)
+step_tests : (u : Segment) (j k : ℕ) → nat_eq (step_of u j) (step_of u k) ≡ nat_eq j k
+step_tests u j k = by (falls u)
   where
-    by : (b : Bool) → has_key (if b then turned_keys cold else cold) (if b then turned k else k) ≡ has_key cold k
-    by true =
-        has_key_is (turned_keys cold) (turned k) ∙ any_rising nat_cmp_total (turned k) (map turned cold)
-        ∙ sym (has_key_is (map turned cold) (turned k)) ∙ turned_found cold k
+    by : (b : Bool) → nat_eq (if b then turned j else j) (if b then turned k else k) ≡ nat_eq j k
+    by true = turned_tests j k
     by false = refl
+
+step_found : (u : Segment) (ks : List ℕ) (k : ℕ) → has_key (map (step_of u) ks) (step_of u k) ≡ has_key ks k
+step_found u [] k = refl
+step_found u (j ∷ ks) k = λ i. step_tests u j k i || step_found u ks k i
+
+-- a key that passes a test is among those that pass where it is among all
+passing_found : (p : ℕ → Bool) (ks : List ℕ) (k : ℕ) → p k ≡ true → has_key (filter p ks) k ≡ has_key ks k
+passing_found p [] k h = refl
+passing_found p (j ∷ ks) k h = by (p j) refl (passing_found p ks k h)
+  where
+    other : p j ≡ false → (b : Bool) → nat_eq j k ≡ b → b ≡ false
+    other e true same =
+        let one : j ≡ k = grind (arith, nat_tests) in
+        absurd (true≢false (sym h ∙ sym (ap p one) ∙ e))
+    other e false same = refl
+
+    by : (b : Bool) → p j ≡ b → has_key (filter p ks) k ≡ has_key ks k
+        → has_key (cond b (j ∷ filter p ks) (filter p ks)) k ≡ (nat_eq j k || has_key ks k)
+    by true e rest = ap (λ c. nat_eq j k || c) rest
+    by false e rest = rest ∙ sym (ap (λ c. c || has_key ks k) (other e (nat_eq j k) refl))
+
+-- a step of a pixel that the segment meets is gone where its key is cold
+gone_at : (f : TileFrame) (u : Segment) (cold : List ℕ) (k : ℕ) → meets_key f u k ≡ true
+    → has_key (grown_row f u [] cold) (step_of u k) ≡ has_key cold k
+gone_at f u cold k met =
+    let gone = filter (meets_key f u) cold in
+    has_key_is (grown_row f u [] cold) (step_of u k) ∙ any_rising nat_cmp_total (step_of u k) (map (step_of u) gone)
+    ∙ sym (has_key_is (map (step_of u) gone) (step_of u k)) ∙ step_found u gone k ∙ passing_found (meets_key f u) cold k met
 
 -- ---- the rows with a segment less
 
@@ -181,15 +204,23 @@ module _ (t : TileContent) (s : Segment) (profile : IsProfile t.profile) (order 
   )
 
   -- each row loses the steps of the pixels that went cold
-  pub path_shrinks : (u : Segment)
+  pub path_shrinks : (u : Segment) → point_cmp u.p u.q ≡ Less
       → path_in (record t { segments = without_name t.segments s.name }) u
-      ≡ thinned_row
-      (if falls u then turned_keys (cold_keys (spots_in t) (own_spots (frame_of t) t.segments s))
-      else cold_keys (spots_in t) (own_spots (frame_of t) t.segments s)) (path_in t u)
-  path_shrinks u =
+      ≡ thinned_row (grown_row (frame_of t) u [] (cold_keys (spots_in t) (own_spots (frame_of t) t.segments s))) (path_in t u)
+  path_shrinks u ordered =
       path_is shrunk u
       ∙ ap (map (λ h. step_of u (key_of f h))) (route_without stays old fewer u stays_hot)
-      ∙ (λ i. map (λ h. step_of u (key_of f h)) (filter (λ h. not (sym (gone_at u cold (key_of f h)) i)) (route_among old u)))
-      ∙ sym (filter_images (λ h. step_of u (key_of f h)) (λ k. not (has_key (if falls u then turned_keys cold else cold) k))
-      (route_among old u))
-      ∙ ap (thinned_row (if falls u then turned_keys cold else cold)) (sym (path_is t u))
+      ∙ ap (map (λ h. step_of u (key_of f h)))
+      (same_kept stays (λ h. not (has_key gone (step_of u (key_of f h)))) (route_among old u)
+      (agree (route_among old u) (route_on_row f profile u ordered old (all_here t))))
+      ∙ sym (filter_images (λ h. step_of u (key_of f h)) (λ k. not (has_key gone k)) (route_among old u))
+      ∙ ap (thinned_row gone) (sym (path_is t u))
+    where
+      gone : List ℕ
+      gone = grown_row f u [] cold
+
+      agree : (hs : List Point) → AllByRecursion (λ h. LiesHere f h × IsTrue (meets_pixel_of u h)) hs
+          → AllByRecursion (λ h. stays h ≡ not (has_key gone (step_of u (key_of f h)))) hs
+      agree [] a = tt
+      agree (h ∷ hs) a =
+          (ap not (sym (gone_at f u cold (key_of f h) (ap (meets_pixel_of u) (pixel_back f profile h a.0.0) ∙ a.0.1))), agree hs a.1)

@@ -1,23 +1,21 @@
 -- Things in order of a number: what one more, others merged in, and others taken away make of them.
 -- A list in order is read in two parts, what is below a number and what is above it.
-use Rattle.std.proofs.Common.{◌≡◌, refl, ap, sym, ◌∙◌, subst, ℕ, zero, suc, ◌+◌, ◌-◌, ◌<◌, ◌≤◌, arith, Bool, true, false, cond, List, [], ◌∷◌, ◌++◌, map, length, get_or, set, take, drop, fold, Less, Equal, Greater, append_assoc, add-one, nat_eq}
-use Rattle.std.specs.Prelude.{sum_by, not, ◌||◌, ◌⊎◌}
-use Rattle.std.specs.List.{filter, list_any, AllByRecursion}
+use Rattle.std.proofs.Common.{◌≡◌, refl, ap, sym, ◌∙◌, subst, ℕ, zero, suc, ◌+◌, ◌<◌, ◌≤◌, arith, true, false, cond, List, [], ◌∷◌, ◌++◌, map, length, get_or, set, take, drop, fold, Less, Equal, Greater, append_assoc, add-one, nat_eq}
+use Rattle.std.specs.Prelude.{not, ◌||◌, ◌⊎◌}
+use Rattle.std.specs.List.{filter, AllByRecursion}
 use Rattle.std.specs.List.Sorted.{IsStrictlySortedBy}
 use Rattle.std.specs.Ordering.{nat_cmp, match_ordering, MatchOrdering, is_lt}
 use Rattle.std.proofs.Common.{Ordering, inl, inr}
 use Rattle.std.specs.Cmp.{nat_cmp_is}
 use Rattle.std.specs.BTreeSet.{insert_key}
-use Rattle.std.proofs.lemmas.Cmp.{nat_cmp_total}
 use Rattle.std.proofs.lemmas.Bool.Decides.{nat_tests}
 use Rattle.std.proofs.lemmas.List.{take-append-drop, drop_more, drop_all, set_split}
-use Rattle.std.proofs.lemmas.List.Sums.{sum_by-cons}
-use Rattle.std.proofs.lemmas.Map.Keys.{sorted_head, sorted_tail, Less-from_sorted}
-use Rattle.grid_core.proofs.Filters.{same_kept, all_kept}
+use Rattle.std.proofs.lemmas.Map.Keys.{sorted_head}
+use Rattle.grid_core.proofs.Filters.{all_kept}
 use Rattle.hot_tile.specs.declared.spots.Spot.{Spot}
 use Rattle.hot_tile.specs.Spots.{OldFirst, Tie, OwnFirst}
 use Rattle.hot_tile.specs.Steps.{StepFirst, SameStep, GoneFirst}
-use Rattle.hot_tile.specs.Spots.{keys, both, counted, merged, has_key, fresh_keys, ends_counted, crossings_counted, less, is_cold, cooled, cold_keys}
+use Rattle.hot_tile.specs.Spots.{keys, both, counted, merged, has_key, fresh_keys}
 
 -- what the order of numbers answers
 pub cmp_less : (x y : ℕ) → x < y → nat_cmp x y ≡ Less

@@ -1,5 +1,5 @@
 -- What a tile tells, from the keys and steps that it keeps: the hot pixel at a point, and the pixels of a route.
-use Rattle.std.proofs.Common.{◌≡◌, refl, ap, sym, ◌∙◌, subst, ℕ, ◌+◌, ◌<◌, arith, Bool, true, false, cond, is_eq, List, [], ◌∷◌, ◌++◌, map, length, Option, Some, None}
+use Rattle.std.proofs.Common.{◌≡◌, refl, ap, sym, ◌∙◌, Bool, true, false, is_eq, List, [], ◌∷◌, ◌++◌, map, Some, None}
 use Rattle.std.specs.Prelude.{IsTrue, slice_get}
 use Rattle.std.specs.List.{filter, flat_map, AllByRecursion}
 use Rattle.std.specs.Ordering.{nat_cmp}
@@ -15,7 +15,8 @@ use Rattle.grid_core.proofs.Comparisons.{point_decides}
 use Rattle.grid_core.proofs.Filters.{all_kept, none_kept, same_kept, map-filter}
 use Rattle.hot_tile.specs.declared.spots.Spot.{Spot}
 use Rattle.hot_tile.specs.Frame.{TileFrame, key_of, pixel_at, step_of}
-use Rattle.hot_tile.specs.Tile.{TileContent, part_in, vertex_in, route_in, frame_of, spot_of, spots_in, path_in}
+use Rattle.tile_law.specs.Parts.{route_in}
+use Rattle.hot_tile.specs.Tile.{TileContent, part_in, vertex_in, frame_of, spot_of, spots_in, path_in}
 use Rattle.hot_tile.proofs.FrameLaws.{key_cmp, pixel_back, step_back}
 
 module _ (t : TileContent) (sizes : IsProfile t.profile) where

@@ -1,15 +1,13 @@
 -- What a tile keeps, read row by row; and the tile without segments.
-use Rattle.std.proofs.Common.{◌≡◌, refl, ap, sym, ◌∙◌, ℕ, ◌+◌, ◌<◌, ◌≤◌, arith, List, [], ◌∷◌, map, length, get_or}
+use Rattle.std.proofs.Common.{◌≡◌, refl, ap, sym, ◌∙◌, ℕ, ◌+◌, ◌<◌, arith, List, [], ◌∷◌, map, length, get_or}
 use Rattle.std.specs.Prelude.{sum_by, filter}
 use Rattle.std.specs.List.Sorted.{IsStrictlySortedBy}
 use Rattle.std.proofs.lemmas.List.{get_or-map, length-map}
 use Rattle.std.proofs.lemmas.List.Elements.{All-nil}
 use Rattle.std.proofs.lemmas.List.Sums.{sum_by-cons}
-use Rattle.grid_core.specs.Name.{label_cmp}
 use Rattle.grid_core.specs.Profile.{Sizes, IsProfile}
 use Rattle.grid_core.specs.declared.tile.TileId.{TileId}
 use Rattle.grid_core.specs.Segment.{Segment, IsSegment}
-use Rattle.grid_core.specs.LiveList.{IsLiveList}
 use Rattle.grid_core.specs.Rounding.{RoutedSegment, crossing_pixels, route}
 use Rattle.grid_core.specs.Tiles.{near, in_tile, passes_in}
 use Rattle.hot_tile.specs.Frame.{TileFrame, key_of, step_of}
@@ -33,7 +31,7 @@ pub row_at : (t : TileContent) (rows : List (List ℕ)) → near t.profile t.id 
 row_at t rows meet e i d lt =
     ap (λ (xs : List (List ℕ)). get_or xs i []) (e ∙ rows_are t meet) ∙ get_or-map (path_in t) t.segments i d [] lt
 
--- where nothing is drawn all rows are empty
+-- where no pixel is hot all rows are empty
 pub row_none : (t : TileContent) → near t.profile t.id t.segments ≡ t.segments → map (λ (s : Segment). []) t.segments ≡ rows_in t
     → (i : ℕ) (d : Segment) → i < length t.segments → [] ≡ path_in t (get_or t.segments i d)
 row_none t meet e i d lt =
@@ -57,7 +55,7 @@ none_summed : (ss : List Segment) → sum_by length (nones ss) ≡ 0
 none_summed [] = refl
 none_summed (s ∷ ss) = sum_by-cons length [] (nones ss) ∙ ap (λ n. 0 + n) (none_summed ss)
 
--- where nothing is drawn there are no passes
+-- where no pixel is hot there are no passes
 pub none_passes : (t : TileContent) → map (λ (s : Segment). []) t.segments ≡ rows_in t → 0 ≡ passes_in (part_in t)
 none_passes t e = sym (none_summed t.segments) ∙ total_is t (nones t.segments) e
 

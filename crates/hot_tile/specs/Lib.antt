@@ -6,4 +6,4 @@ pub mod Own
 pub mod Steps
 pub mod Tile
 pub mod Paths
-pub mod Drawn
+pub mod HotPart

@@ -1,5 +1,5 @@
 -- What a segment counts in a tile by its own.
-use Rattle.std.specs.Prelude.{ℕ, List, [], ◌∷◌, ◌++◌, fold, flat_map, Option, Some, None, option_map}
+use Rattle.std.specs.Prelude.{ℕ, List, [], ◌∷◌, ◌++◌, fold, flat_map, Option, Some, None}
 use Rattle.grid_core.specs.declared.point.Point.{Point}
 use Rattle.grid_core.specs.Segment.{Segment}
 use Rattle.grid_core.specs.Rounding.{crossing_pixel}

@@ -1,8 +1,7 @@
 -- The passes of the segments of a tile once pixels became hot, or cold.
-use Rattle.std.specs.Prelude.{ℕ, ◌+◌, if◌then◌else◌, List, [], ◌∷◌, ◌++◌, map, take, drop}
+use Rattle.std.specs.Prelude.{ℕ, ◌+◌, List, [], ◌∷◌, ◌++◌, map, take, drop}
 use Rattle.grid_core.specs.Segment.{Segment}
-use Rattle.grid_core.specs.Tiles.{falls}
-use Rattle.hot_tile.specs.Steps.{grown_row, thinned_row, turned_keys}
+use Rattle.hot_tile.specs.Steps.{grown_row, thinned_row}
 use Rattle.hot_tile.specs.Tile.{TileContent, frame_of, path_in}
 
 -- the passes of u with those through the pixels that became hot
@@ -17,7 +16,7 @@ grown_paths t at s hot fresh =
 
 -- the passes of u without those through the pixels that became cold
 abbrev pub thinned_path : TileContent → List ℕ → Segment → List ℕ
-thinned_path t cold u = thinned_row (if falls u then turned_keys cold else cold) (path_in t u)
+thinned_path t cold u = thinned_row (grown_row (frame_of t) u [] cold) (path_in t u)
 
 -- those of all segments but the one at an index
 abbrev pub thinned_paths : TileContent → ℕ → List ℕ → List (List ℕ)

@@ -1,12 +1,12 @@
 -- Rows of steps: the numbers of pixels along a segment, in order.
-use Rattle.std.specs.Prelude.{◌≡◌, ◌<◌, ◌+◌, ℕ, Bool, not, List, [], map, filter, fold}
+use Rattle.std.specs.Prelude.{◌≡◌, ◌<◌, ◌+◌, ℕ, Bool, not, List, map, filter, fold}
 use Rattle.std.specs.Prelude.{length, drop, slice_index}
 use Rattle.std.specs.List.{AllByRecursion}
 use Rattle.std.specs.Ordering.{nat_cmp}
 use Rattle.std.specs.BTreeSet.{insert_key}
 use Rattle.grid_core.specs.Segment.{Segment}
 use Rattle.grid_core.specs.Meets.{meets_pixel_of}
-use Rattle.hot_tile.specs.Frame.{TileFrame, pixel_at, step_of, turned}
+use Rattle.hot_tile.specs.Frame.{TileFrame, pixel_at, step_of}
 use Rattle.hot_tile.specs.Spots.{has_key}
 
 -- the segment meets the pixel with this key
@@ -20,10 +20,6 @@ grown_row f u old ks = fold (insert_key nat_cmp) old (map (step_of u) (filter (m
 -- the row without the steps that are gone
 abbrev pub thinned_row : List ℕ → List ℕ → List ℕ
 thinned_row gone old = filter (λ k. not (has_key gone k)) old
-
--- the keys where rows are counted from above, in order
-abbrev pub turned_keys : List ℕ → List ℕ
-turned_keys ks = fold (insert_key nat_cmp) [] (map turned ks)
 
 -- ---- which of two rows goes on
 

@@ -1,5 +1,5 @@
 -- Tiles: the part of a rounding that lies in one tile, told by the segments that meet the tile.
-use Rattle.std.specs.Prelude.{◌≡◌, ◌≤◌, ℕ, List, [], map, filter, flat_map, length, slice_get, Option, Some, None}
+use Rattle.std.specs.Prelude.{◌≡◌, ◌≤◌, ℕ, List, map, filter, length, slice_get, Option}
 use Rattle.grid_core.specs.declared.point.Point.{Point}
 use Rattle.grid_core.specs.declared.point.Vertex.{Vertex}
 use Rattle.grid_core.specs.declared.tile.TileId.{TileId}
@@ -30,10 +30,6 @@ vertex_in p h = slice_get (filter (λ v. point_eq v.at h) p.vertices) 0
 -- the segment of this name
 abbrev pub segment_in : List Segment → Label → Option Segment
 segment_in ss name = slice_get (filter (λ s. label_eq s.name name) ss) 0
-
--- the pixels of the route of this name
-abbrev pub route_in : TilePart → Label → List Point
-route_in p name = flat_map (λ r. r.points) (filter (λ r. label_eq r.ur.name name) p.routes)
 
 -- the tile by its sizes and its number
 abbrev pub frame_of : TileContent → TileFrame

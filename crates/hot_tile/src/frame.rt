@@ -121,7 +121,7 @@ fn moved(first: i64, offset: u32) -> i64
 /// The key in a tile whose rows are counted from above.
 #[inline(always)]
 #[tactic(auto, unfolding(crate::specs::Frame::turned))]
-pub(crate) fn turn(key: u32) -> u32
+fn turn(key: u32) -> u32
     ensures { result ≡ turned key }
 {
     key / 65_536 * 65_536 + (65_535 - key % 65_536)

@@ -7,7 +7,7 @@ use crate::own::count_own;
 use crate::rows::Rows;
 use crate::spots::{Spot, merge};
 use crate::steps::{grow_row, make_row};
-use crate::tile::Drawn;
+use crate::tile::HotPart;
 use crate::{Scratch, Tile};
 use grid_core::{Memory, Ur};
 use std::alloc::Global;
@@ -23,7 +23,7 @@ impl Tile {
     ghost use Rattle.hot_tile.specs.Spots.{keys};
     ghost use Rattle.hot_tile.specs.Tile.{frame_of};
     ghost use Rattle.hot_tile.specs.Paths.{grown_path, grown_paths};
-    ghost use Rattle.hot_tile.specs.Drawn.{Draws};
+    ghost use Rattle.hot_tile.specs.HotPart.{IsHotPart};
 
     /// The tile with this segment too: the part of the rounding of its segments and this one. The
     /// segment lies within the bound of the tile's profile and meets the tile, its name isn't in the
@@ -59,7 +59,7 @@ impl Tile {
         )?;
         let at = index_of(segments, s.name());
         let listed = self.listed.with(self.alloc, at, s)?;
-        let drawn = self.draw_with(
+        let hot_part = self.hot_part_with(
             at,
             s,
             &scratch.spots,
@@ -72,13 +72,13 @@ impl Tile {
             profile: self.profile,
             id: self.id,
             listed,
-            drawn,
+            hot_part,
         })
     }
 
     /// These hot pixels, and the passes through them of all segments and of `s`, which comes before
     /// the one at an index.
-    fn draw_with(
+    fn hot_part_with(
         &self,
         at: usize,
         s: &Ur,
@@ -86,10 +86,10 @@ impl Tile {
         fresh: &[u32],
         row: &mut Vec<u32>,
         rows: &mut Rows,
-    ) -> Result<Option<Box<Drawn>>, Memory>
+    ) -> Result<Option<Box<HotPart>>, Memory>
         requires within { at ≤ length self.now.segments }
         requires near { IsWithin (2 ^ 30 + 2 ^ 16) (lowest (frame_of self.now)) }
-        ensures { IfOk result (λ d. Draws d spots.now
+        ensures { IfOk result (λ d. IsHotPart d spots.now
             (grown_paths self.now at s.now (keys spots.now) fresh.now)) }
     {
         if spots.is_empty() {
@@ -100,7 +100,7 @@ impl Tile {
         make_row(row, &self.frame(), s, spots)?;
         rows.push(row)?;
         self.grow_between(at, self.count(), fresh, row, rows)?;
-        Ok(Some(draw(self.alloc, spots, rows)?))
+        Ok(Some(hot_part(self.alloc, spots, rows)?))
     }
 
     /// Puts the passes of the segments from one index to another behind the rows, with those through
@@ -134,13 +134,13 @@ impl Tile {
 }
 
 /// These hot pixels and passes, each vector as long as what it has.
-pub(crate) fn draw(alloc: Global, spots: &[Spot], rows: &Rows) -> Result<Box<Drawn>, Memory>
+pub(crate) fn hot_part(alloc: Global, spots: &[Spot], rows: &Rows) -> Result<Box<HotPart>, Memory>
     ensures spots { IfOk result (λ d. d.value.spots.items ≡ spots.now) }
     ensures rows { IfOk result (λ d. d.value.rows ≡ rows.now) }
 {
-    let drawn = Drawn {
+    let hot_part = HotPart {
         spots: Vec::from_slice(alloc, spots)?,
         rows: rows.copy(alloc)?,
     };
-    Ok(Box::new(alloc, drawn)?)
+    Ok(Box::new(alloc, hot_part)?)
 }

@@ -94,6 +94,9 @@ impl Listed {
         ensures { IfOk result (λ l. l ≡ take at self.now ++ drop (suc at) self.now) }
     {
         let old = self.as_slice();
+        if old.len() == 1 {
+            return Ok(Listed::empty(alloc));
+        }
         if old.len() == 2 {
             return Ok(Listed {
                 form: Form::One(old[1 - at]),

@@ -15,8 +15,8 @@ pub struct Scratch {
     pub(crate) spots: Vec<Spot>,
     /// The keys of the pixels that became hot, or cold.
     pub(crate) changed: Vec<u32>,
-    /// The same keys with their rows counted from above, in order.
-    pub(crate) turned: Vec<u32>,
+    /// Those of them that one segment meets, as steps along it.
+    pub(crate) gone: Vec<u32>,
     /// One row of passes.
     pub(crate) row: Vec<u32>,
     /// The passes of the new tile.
@@ -40,7 +40,7 @@ impl Scratch {
             own: Vec::new(alloc),
             spots: Vec::new(alloc),
             changed: Vec::new(alloc),
-            turned: Vec::new(alloc),
+            gone: Vec::new(alloc),
             row: Vec::new(alloc),
             rows: Rows::open(alloc),
         }

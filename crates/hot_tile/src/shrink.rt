@@ -1,25 +1,24 @@
 //! A tile with a segment less.
 
-use crate::frame::falls;
-use crate::grow::draw;
+use crate::grow::hot_part;
 use crate::listed::index_of;
 use crate::own::count_own;
 use crate::rows::Rows;
 use crate::spots::{Spot, cool};
-use crate::steps::{thin_row, turn_keys};
-use crate::tile::Drawn;
+use crate::steps::{grow_row, thin_row};
+use crate::tile::HotPart;
 use crate::{Scratch, Tile};
 use grid_core::{Memory, Name};
 
 impl Tile {
-    ghost use Rattle.std.specs.Prelude.{◌≡◌, ◌<◌, ◌≤◌, ◌-◌, ◌++◌, Contains};
+    ghost use Rattle.std.specs.Prelude.{◌≡◌, ◌<◌, ◌≤◌, ◌+◌, ◌-◌, ◌^◌, ◌++◌, Contains};
     ghost use Rattle.std.specs.Prelude.{length, map, take, drop, IfOk, OnOk};
-    ghost use Rattle.std.specs.Ordering.{nat_cmp};
-    ghost use Rattle.std.specs.List.Sorted.{IsStrictlySortedBy};
     ghost use Rattle.grid_core.specs.LiveList.{names, without_name};
-    ghost use Rattle.hot_tile.specs.Steps.{turned_keys};
+    ghost use Rattle.grid_core.specs.Vector.{IsWithin};
+    ghost use Rattle.hot_tile.specs.Frame.{lowest};
+    ghost use Rattle.hot_tile.specs.Tile.{frame_of};
     ghost use Rattle.hot_tile.specs.Paths.{thinned_path, thinned_paths};
-    ghost use Rattle.hot_tile.specs.Drawn.{Draws};
+    ghost use Rattle.hot_tile.specs.HotPart.{IsHotPart};
 
     /// The tile without the segment of this name, which it has: the part of the rounding of the
     /// others.
@@ -39,6 +38,9 @@ impl Tile {
             ≡ record self.now { segments = without_name self.now.segments name }) }
     {
         let segments = self.segments();
+        if segments.len() == 1 {
+            return Ok(Tile::empty(self.alloc, self.profile, self.id));
+        }
         let at = index_of(segments, name);
         count_own(&mut scratch.own, &self.frame(), &segments[at], segments)?;
         cool(
@@ -47,13 +49,12 @@ impl Tile {
             &mut scratch.spots,
             &mut scratch.changed,
         )?;
-        turn_keys(&mut scratch.turned, &scratch.changed)?;
         let listed = self.listed.without(self.alloc, at)?;
-        let drawn = self.draw_without(
+        let hot_part = self.hot_part_without(
             at,
             &scratch.spots,
             &scratch.changed,
-            &scratch.turned,
+            &mut scratch.gone,
             &mut scratch.row,
             &mut scratch.rows,
         )?;
@@ -62,33 +63,32 @@ impl Tile {
             profile: self.profile,
             id: self.id,
             listed,
-            drawn,
+            hot_part,
         })
     }
 
     /// These hot pixels, and the passes through them of all segments but the one at an index.
-    fn draw_without(
+    fn hot_part_without(
         &self,
         at: usize,
         spots: &[Spot],
         cold: &[u32],
-        turned: &[u32],
+        gone: &mut Vec<u32>,
         row: &mut Vec<u32>,
         rows: &mut Rows,
-    ) -> Result<Option<Box<Drawn>>, Memory>
+    ) -> Result<Option<Box<HotPart>>, Memory>
         requires within { at < length self.now.segments }
-        requires rising { IsStrictlySortedBy nat_cmp cold.now }
-        requires turned { turned.now ≡ turned_keys cold.now }
-        ensures { IfOk result (λ d. Draws d spots.now (thinned_paths self.now at cold.now)) }
+        requires near { IsWithin (2 ^ 30 + 2 ^ 16) (lowest (frame_of self.now)) }
+        ensures { IfOk result (λ d. IsHotPart d spots.now (thinned_paths self.now at cold.now)) }
     {
         let count = self.count();
         if spots.is_empty() {
             return Ok(None);
         }
         rows.clear();
-        self.thin_between(0, at, cold, turned, row, rows)?;
-        self.thin_between(at + 1, count, cold, turned, row, rows)?;
-        Ok(Some(draw(self.alloc, spots, rows)?))
+        self.thin_between(0, at, cold, gone, row, rows)?;
+        self.thin_between(at + 1, count, cold, gone, row, rows)?;
+        Ok(Some(hot_part(self.alloc, spots, rows)?))
     }
 
     /// Puts the passes of the segments from one index to another behind the rows, without those
@@ -98,26 +98,24 @@ impl Tile {
         from: usize,
         to: usize,
         cold: &[u32],
-        turned: &[u32],
+        gone: &mut Vec<u32>,
         row: &mut Vec<u32>,
         rows: &mut Rows,
     ) -> Result<(), Memory>
         requires order { from ≤ to }
         requires within { to ≤ length self.now.segments }
-        requires rising { IsStrictlySortedBy nat_cmp cold.now }
-        requires turned { turned.now ≡ turned_keys cold.now }
+        requires near { IsWithin (2 ^ 30 + 2 ^ 16) (lowest (frame_of self.now)) }
         ensures { OnOk result (rows.new ≡ rows.old ++ map (thinned_path self.now cold.now)
             (take (to - from) (drop from self.now.segments))) }
     {
         let segments = self.segments();
+        let frame = self.frame();
         for i in from..to {
             if cold.is_empty() {
                 rows.push(self.row(i))?;
-            } else if falls(&segments[i]) {
-                thin_row(row, self.row(i), turned)?;
-                rows.push(row)?;
             } else {
-                thin_row(row, self.row(i), cold)?;
+                grow_row(gone, &frame, &segments[i], &[], cold)?;
+                thin_row(row, self.row(i), gone)?;
                 rows.push(row)?;
             }
         }

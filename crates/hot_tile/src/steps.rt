@@ -8,13 +8,16 @@ ghost use Rattle.std.specs.BTreeSet.{insert_key};
 ghost use Rattle.grid_core.specs.Vector.{IsWithin};
 ghost use Rattle.hot_tile.specs.Frame.{lowest};
 ghost use Rattle.hot_tile.specs.Spots.{keys};
-ghost use Rattle.hot_tile.specs.Steps.{grown_row, thinned_row, turned_keys};
+ghost use Rattle.grid_core.specs.Segment.{IsSegment};
+ghost use Rattle.grid_core.specs.Meets.{box_of};
+ghost use Rattle.pixel_test.specs.Corners.{overlaps_of, shares_columns_of, shares_rows_of};
+ghost use Rattle.hot_tile.specs.Steps.{meets_key, grown_row, thinned_row};
 ghost use Rattle.hot_tile.specs.Steps.{StepFirst, SameStep, GoneFirst};
 
-use crate::frame::{Frame, step_of, turn};
+use crate::frame::{Frame, step_of};
 use crate::rows::Rows;
 use crate::spots::Spot;
-use grid_core::{Memory, Ur};
+use grid_core::{Memory, Point, Ur};
 use pixel_test::meets_pixel;
 use std::cmp::Ordering;
 
@@ -56,7 +59,7 @@ pub(crate) fn grow_row(
     row.clear();
     row.extend_from_slice(old)?;
     for key in pixels {
-        if meets_pixel(u, frame.pixel_at(*key)) {
+        if meets_key(frame, u, *key) {
             put(row, step_of(u, *key))?;
         }
     }
@@ -75,11 +78,49 @@ pub(crate) fn make_row(
 {
     row.clear();
     for spot in spots {
-        if meets_pixel(s, frame.pixel_at(spot.key)) {
+        if meets_key(frame, s, spot.key) {
             put(row, step_of(s, spot.key))?;
         }
     }
     Ok(())
+}
+
+/// Whether the segment meets the pixel with this key. The columns and rows from one end of the
+/// segment to the other are looked at first, since few pixels lie in them.
+#[inline(always)]
+fn meets_key(frame: &Frame, u: &Ur, key: u32) -> bool
+    requires { IsWithin (2 ^ 30 + 2 ^ 16) (lowest frame.now) }
+    ensures { result ≡ meets_key frame.now u.now key }
+{
+    let h = frame.pixel_at(key);
+    spans(u, h) && meets_pixel(u, h)
+}
+
+/// Whether the pixel lies in the columns and in the rows from one end of the segment to the other.
+#[inline(always)]
+fn spans(u: &Ur, h: Point) -> bool
+    ensures value { result ≡ overlaps_of u.now (box_of h) }
+    ensures kept { IsSegment (2 ^ 30) u.now }
+{
+    let p = u.p();
+    let q = u.q();
+    spans_columns(p.x, q.x, h) && spans_rows(p.y, q.y, h)
+}
+
+/// Whether the pixel lies in the columns from `left` to `right`.
+#[inline(always)]
+fn spans_columns(left: i64, right: i64, h: Point) -> bool
+    ensures { result ≡ shares_columns_of left right (box_of h) }
+{
+    left <= h.x && h.x <= right
+}
+
+/// Whether the pixel lies in the rows from `a` to `b`, given in either order.
+#[inline(always)]
+fn spans_rows(a: i64, b: i64, h: Point) -> bool
+    ensures { result ≡ shares_rows_of a b (box_of h) }
+{
+    a.min(b) <= h.y && h.y <= a.max(b)
 }
 
 /// Which of two steps of two rows, each in order, comes first.
@@ -107,7 +148,7 @@ pub(crate) fn thin_row(row: &mut Vec<u32>, old: &[u32], gone: &[u32]) -> Result<
     row.clear();
     let mut i = 0;
     let mut j = 0;
-    'steps: while i < old.len() {
+    'steps: while i < old.len() && j < gone.len() {
         match order(old, i, gone, j) {
             Ordering::Less => {
                 row.push(old[i])?;
@@ -120,16 +161,6 @@ pub(crate) fn thin_row(row: &mut Vec<u32>, old: &[u32], gone: &[u32]) -> Result<
             Ordering::Greater => j += 1,
         }
     }
-    Ok(())
-}
-
-/// Makes `turned` the keys where rows are counted from above, in order.
-pub(crate) fn turn_keys(turned: &mut Vec<u32>, keys: &[u32]) -> Result<(), Memory>
-    ensures { OnOk result (turned.new.items ≡ turned_keys keys.now) }
-{
-    turned.clear();
-    for key in keys {
-        put(turned, turn(*key))?;
-    }
+    row.extend_from_slice(&old[i..])?;
     Ok(())
 }

@@ -13,7 +13,7 @@ use std::marker::Model;
 
 /// The hot pixels of a tile, and the passes of its segments through them.
 #[derive(Drop)]
-pub(crate) struct Drawn {
+pub(crate) struct HotPart {
     /// The hot pixels in order of key.
     pub(crate) spots: Vec<Spot>,
     /// For each segment its passes as steps along it.
@@ -30,19 +30,19 @@ pub struct Tile {
     /// The segments in order of name.
     pub(crate) listed: Listed,
     /// The hot pixels and the passes. `None` where no pixel of the tile is hot.
-    pub(crate) drawn: Option<Box<Drawn>>,
+    pub(crate) hot_part: Option<Box<HotPart>>,
 }
 
 impl Model for Tile {
     ghost use Rattle.hot_tile.specs.Tile.{TileContent, IsTile};
-    ghost use Rattle.hot_tile.specs.Drawn.{drawn_spots, drawn_rows};
+    ghost use Rattle.hot_tile.specs.HotPart.{part_spots, part_rows};
 
     ghost Value = { TileContent };
 
     ghost view = { λ t. record { profile = t.profile; id = t.id; segments = t.listed } };
 
     ghost invariant = { λ t. IsTile (record { profile = t.profile; id = t.id; segments = t.listed })
-        (drawn_spots t.drawn) (drawn_rows t.listed t.drawn) };
+        (part_spots t.hot_part) (part_rows t.listed t.hot_part) };
 }
 
 impl Tile {
@@ -55,8 +55,9 @@ impl Tile {
     ghost use Rattle.std.specs.List.Sorted.{IsStrictlySortedBy};
     ghost use Rattle.grid_core.specs.Profile.{IsProfile};
     ghost use Rattle.hot_tile.specs.Spots.{keys, is_cold, IsSmall};
-    ghost use Rattle.hot_tile.specs.Tile.{IsTileContent, part_in, vertex_in, segment_in, route_in};
+    ghost use Rattle.hot_tile.specs.Tile.{IsTileContent, part_in, vertex_in, segment_in};
     ghost use Rattle.grid_core.specs.Segment.{Segment};
+    ghost use Rattle.tile_law.specs.Parts.{route_in};
     ghost use Rattle.hot_tile.specs.Tile.{frame_of, spots_in, path_in};
 
     /// The tile without segments. Takes no memory.
@@ -69,7 +70,7 @@ impl Tile {
             profile,
             id,
             listed: Listed::empty(alloc),
-            drawn: None,
+            hot_part: None,
         }
     }
 
@@ -85,8 +86,8 @@ impl Tile {
     pub fn passes(&self) -> u64
         ensures { result ≡ passes_in (part_in self.now) }
     {
-        match &self.drawn {
-            Some(drawn) => drawn.rows.total() as u64,
+        match &self.hot_part {
+            Some(hot_part) => hot_part.rows.total() as u64,
             None => 0,
         }
     }
@@ -160,8 +161,8 @@ impl Tile {
         ensures warm { All (λ x. is_cold x ≡ false) result.now }
         ensures small { All (IsSmall (2 ^ 31) (2 ^ 31)) result.now }
     {
-        match &self.drawn {
-            Some(drawn) => drawn.spots.as_slice(),
+        match &self.hot_part {
+            Some(hot_part) => hot_part.spots.as_slice(),
             None => &[],
         }
     }
@@ -174,8 +175,8 @@ impl Tile {
             ≡ path_in self.now (slice_index_or self.now.segments i d) }
         ensures rising { IsStrictlySortedBy nat_cmp result.now }
     {
-        match &self.drawn {
-            Some(drawn) => drawn.rows.row(i),
+        match &self.hot_part {
+            Some(hot_part) => hot_part.rows.row(i),
             None => &[],
         }
     }

@@ -1,4 +1,4 @@
-use Rattle.std.proofs.Common.{◌≡◌, ◌∙◌, sym, ap, subst, arith, true, false, ◌+◌, ◌-◌, ◌<◌, ◌≤◌, ℕ, List, [], ◌∷◌, ◌++◌, length, get_or}
+use Rattle.std.proofs.Common.{◌≡◌, ◌∙◌, sym, ap, subst, arith, ◌+◌, ℕ, List, [], ◌∷◌, ◌++◌, get_or}
 use Rattle.hot_tile.specs.declared.spots.Spot.{Spot}
 use Rattle.hot_tile.specs.Spots.{is_cold}
 use Rattle.hot_tile.proofs.CoolLaws.{IsCooling, leaves_old, passes_own, leaves_some, leaves_none}

@@ -1,4 +1,4 @@
-use Rattle.std.proofs.Common.{◌≡◌, ◌∙◌, sym, ap, subst, arith, ◌+◌, ◌-◌, ◌<◌, ◌≤◌, ℕ, List, [], ◌∷◌, ◌++◌, length, get_or}
+use Rattle.std.proofs.Common.{◌∙◌, sym, ap, subst, arith, ◌+◌, ℕ, List, [], ◌∷◌, ◌++◌, get_or}
 use Rattle.hot_tile.specs.declared.spots.Spot.{Spot}
 use Rattle.hot_tile.proofs.SpotLaws.{IsMerging, takes_old, takes_own, takes_both, above_at, above_end}
 use Rattle.hot_tile.proofs.spots.merge.Goals as goal

@@ -1,4 +1,4 @@
-use Rattle.std.proofs.Common.{◌≡◌, ◌∙◌, sym, ap, arith, ◌<◌, length, get_or}
+use Rattle.std.proofs.Common.{◌∙◌, arith, ◌<◌, length}
 use Rattle.std.specs.Ordering.{nat_cmp}
 use Rattle.hot_tile.specs.declared.spots.Spot.{Spot}
 use Rattle.hot_tile.proofs.SpotLaws.{order_tells}

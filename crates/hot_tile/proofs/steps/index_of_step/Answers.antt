@@ -1,4 +1,4 @@
-use Rattle.std.proofs.Common.{rules, is_lt, nat_cmp, ◌≡◌, true, false, ℕ, subst, sym, map}
+use Rattle.std.proofs.Common.{rules, is_lt, nat_cmp, ◌≡◌, true, false, ℕ, subst, sym}
 use Rattle.std.specs.List.Sorted.{IsPartitionPoint, IsStrictlySortedBy}
 use Rattle.std.proofs.lemmas.Cmp.{nat_cmp_total}
 use Rattle.std.proofs.lemmas.List.Sorted.{IsPartitionPoint-from_clause}

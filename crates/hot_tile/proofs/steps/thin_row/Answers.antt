@@ -1,6 +1,7 @@
-use Rattle.std.proofs.Common.{sym, subst, arith, ◌+◌, ℕ, List}
-use Rattle.hot_tile.proofs.CoolLaws.{IsThinning, keeps_step, passes_gone, drops_step}
+use Rattle.std.proofs.Common.{◌∙◌, sym, subst, arith, ◌+◌, ◌≤◌, ◌⊎◌, inl, inr, ℕ, List, length}
+use Rattle.hot_tile.proofs.CoolLaws.{IsThinning, keeps_step, passes_gone, drops_step, keeps_rest}
 use Rattle.hot_tile.proofs.steps.thin_row.Goals as goal
+use Rattle.hot_tile.proofs.steps.thin_row.Goals.{then-steps-test+else-j-gone, else-steps-test}
 
 pub steps-preserved-in-Less : goal.steps-preserved-in-Less
 steps-preserved-in-Less c =
@@ -32,3 +33,12 @@ steps-preserved c =
       gone_within = omega (arith, t.within);
       so_far = passes_gone c.steps.invariant.so_far 0 t.within t.first;
     }
+
+pub returns : goal.returns
+returns c =
+    let ended : (length c.args.old.now ≤ c.steps.i) ⊎ (length c.args.gone.now ≤ c.steps.j) =
+    elim c.steps-test.branch [
+      | then-steps-test+else-j-gone w ↦ inr (omega (arith, w.if-j-gone.false))
+      | else-steps-test w ↦ inl (omega (arith, w.steps-test.false))
+    ] in
+    c.in_ok-extend_from_slice.ensures.items ∙ keeps_rest c.steps.invariant.so_far ended

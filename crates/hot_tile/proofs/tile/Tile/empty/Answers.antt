@@ -1,4 +1,4 @@
-use Rattle.std.proofs.Common.{◌∙◌, sym, subst, ℕ, List, [], map}
+use Rattle.std.proofs.Common.{sym, subst, List, [], map}
 use Rattle.grid_core.specs.Segment.{Segment}
 use Rattle.hot_tile.specs.Tile.{IsTile}
 use Rattle.hot_tile.proofs.TileLaws.{empty_is_tile}

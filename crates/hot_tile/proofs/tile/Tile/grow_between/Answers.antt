@@ -1,9 +1,9 @@
-use Rattle.std.proofs.Common.{◌≡◌, ◌∙◌, sym, ap, ℕ, List, [], ◌∷◌, ◌++◌, ◌<◌, ◌≤◌, arith, length, get_or}
+use Rattle.std.proofs.Common.{◌≡◌, ◌∙◌, sym, ap, ℕ, List, ◌<◌, arith, length, get_or}
 use Rattle.std.specs.Prelude.{pos}
 use Rattle.grid_core.specs.Segment.{Segment}
 use Rattle.hot_tile.specs.Frame.{TileFrame}
 use Rattle.hot_tile.specs.Steps.{grown_row}
-use Rattle.hot_tile.specs.Tile.{frame_of, path_in}
+use Rattle.hot_tile.specs.Tile.{frame_of}
 use Rattle.hot_tile.specs.Paths.{grown_path}
 use Rattle.hot_tile.proofs.PathLaws.{between_more, grown_none, empty_is}
 use Rattle.hot_tile.proofs.tile.Tile.grow_between.Goals as goal

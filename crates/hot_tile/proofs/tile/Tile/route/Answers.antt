@@ -1,4 +1,4 @@
-use Rattle.std.proofs.Common.{◌≡◌, ◌∙◌, sym, ap, subst, arith, true, false, ℕ, List, [], ◌∷◌, ◌++◌, ◌<◌, ◌≤◌, map, length, get_or}
+use Rattle.std.proofs.Common.{◌≡◌, ◌∙◌, sym, ap, subst, arith, List, [], ◌∷◌, ◌++◌, ◌<◌, ◌≤◌, map, length, get_or}
 use Rattle.std.specs.List.{filter}
 use Rattle.std.specs.List.Sorted.{IsStrictlySortedBy}
 use Rattle.std.proofs.lemmas.Bool.Decides.{nat_tests}
@@ -11,7 +11,7 @@ use Rattle.grid_core.specs.Tiles.{near}
 use Rattle.grid_core.proofs.Comparisons.{name_test}
 use Rattle.grid_core.proofs.Order.{label_total}
 use Rattle.hot_tile.specs.Frame.{TileFrame, pixel_at, step_of}
-use Rattle.hot_tile.specs.Tile.{TileContent, part_in, route_in, frame_of, path_in}
+use Rattle.hot_tile.specs.Tile.{TileContent, frame_of, path_in}
 use Rattle.hot_tile.proofs.Lookups.{none_past, none_there, one_there}
 use Rattle.hot_tile.proofs.TellLaws.{no_route, one_route}
 use Rattle.hot_tile.proofs.tile.Tile.route.Goals as goal

@@ -1,5 +1,5 @@
-use Rattle.std.proofs.Common.{◌≡◌, ◌∙◌, sym, ap, subst, refl, arith, true, false, true≢false, is_eq, List, [], ◌∷◌, ◌<◌, ◌≤◌, length, get_or, Option, Some, None}
-use Rattle.std.specs.Prelude.{option_copied, slice_get, Contains, is_some}
+use Rattle.std.proofs.Common.{◌≡◌, ◌∙◌, sym, ap, subst, arith, true, false, true≢false, List, [], ◌∷◌, ◌<◌, ◌≤◌, length, get_or}
+use Rattle.std.specs.Prelude.{option_copied, slice_get, is_some}
 use Rattle.std.specs.List.Sorted.{IsStrictlySortedBy}
 use Rattle.std.specs.List.{filter}
 use Rattle.std.proofs.lemmas.Bool.Decides.{nat_tests}

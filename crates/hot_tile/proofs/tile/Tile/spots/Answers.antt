@@ -1,4 +1,4 @@
-use Rattle.std.proofs.Common.{rules, ◌≡◌, ◌≤◌, sym, ap, subst, false, ◌^◌, List, [], length}
+use Rattle.std.proofs.Common.{rules, ◌≡◌, ◌≤◌, sym, subst, false, ◌^◌, List, length}
 use Rattle.grid_core.specs.Profile.{IsProfile}
 use Rattle.std.specs.Prelude.{All}
 use Rattle.std.specs.Ordering.{nat_cmp}
@@ -6,7 +6,6 @@ use Rattle.std.specs.List.Sorted.{IsStrictlySortedBy}
 use Rattle.hot_tile.specs.declared.spots.Spot.{Spot}
 use Rattle.hot_tile.specs.Spots.{keys, is_cold, IsSmall}
 use Rattle.hot_tile.specs.Tile.{TileContent, spots_in}
-use Rattle.hot_tile.specs.Drawn.{drawn_spots}
 use Rattle.hot_tile.proofs.PartCounts.{spots_are_spots}
 use Rattle.hot_tile.proofs.PathLaws.{none_rises}
 use Rattle.hot_tile.proofs.SmallSpots.{spots_warm, spots_small}

@@ -1,14 +1,13 @@
-use Rattle.std.proofs.Common.{◌≡◌, ◌∙◌, sym, ap, subst, refl, arith, true, false, true≢false, is_eq, Bool, ℕ, List, [], ◌∷◌, ◌<◌, ◌≤◌, length, get_or, Option, Some, None, cond}
+use Rattle.std.proofs.Common.{◌≡◌, ◌∙◌, sym, ap, subst, refl, arith, true, false, is_eq, Bool, ℕ, List, [], ◌∷◌, ◌<◌, ◌≤◌, length, Some, None, cond}
 use Rattle.std.specs.List.{filter}
 use Rattle.std.specs.Ordering.{nat_cmp}
-use Rattle.std.specs.List.Sorted.{IsStrictlySortedBy}
 use Rattle.std.proofs.lemmas.Bool.Decides.{nat_tests}
 use Rattle.std.proofs.lemmas.Cmp.{nat_cmp_total}
 use Rattle.grid_core.specs.declared.point.Point.{Point}
 use Rattle.grid_core.specs.Tiles.{in_tile}
 use Rattle.hot_tile.specs.declared.spots.Spot.{Spot}
 use Rattle.hot_tile.specs.Frame.{TileFrame, key_of, key_in}
-use Rattle.hot_tile.specs.Tile.{part_in, vertex_in, frame_of, spots_in}
+use Rattle.hot_tile.specs.Tile.{frame_of, spots_in}
 use Rattle.hot_tile.proofs.Lookups.{none_past, none_there, one_there}
 use Rattle.hot_tile.proofs.TellLaws.{none_outside, none_at, one_at}
 use Rattle.hot_tile.proofs.tile.Tile.vertex.Goals as goal

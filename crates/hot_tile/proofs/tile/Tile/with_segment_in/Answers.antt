@@ -1,5 +1,5 @@
 -- What the steps of the code made is what the tile with the segment keeps.
-use Rattle.std.proofs.Common.{◌≡◌, ◌∙◌, ◌≤◌, ◌<◌, ◌^◌, sym, ap, subst, arith, is_lt, ℕ, List, ◌∷◌, ◌++◌, length, take, drop}
+use Rattle.std.proofs.Common.{◌≡◌, ◌∙◌, ◌≤◌, ◌^◌, sym, ap, subst, is_lt, List, ◌∷◌, ◌++◌, length, take, drop}
 use Rattle.std.specs.Prelude.{not, All}
 use Rattle.std.specs.List.{filter}
 use Rattle.std.specs.Ordering.{nat_cmp}
@@ -13,7 +13,7 @@ use Rattle.hot_tile.specs.Frame.{TileFrame}
 use Rattle.hot_tile.specs.Spots.{keys, merged, fresh_keys, IsSmall}
 use Rattle.hot_tile.specs.Own.{own_spots}
 use Rattle.hot_tile.specs.Tile.{TileContent, IsTile, frame_of, spots_in}
-use Rattle.hot_tile.specs.Drawn.{drawn_spots, drawn_rows}
+use Rattle.hot_tile.specs.HotPart.{part_spots, part_rows}
 use Rattle.hot_tile.proofs.InTile.{near_bound}
 use Rattle.hot_tile.proofs.OwnLaws.{own_rises, own_small}
 use Rattle.hot_tile.proofs.Assembly.{IsComing, put_in}
@@ -33,8 +33,8 @@ merge-requires-clause-own_small c =
     (own_small c.frame.result c.segments-segments.result.now c.args.s.now
     (subst (λ (us : List Segment). length us ≤ 65536) (sym c.segments-segments.ensures.value) c.segments-segments.ensures.few)))
 
-pub draw_with-requires-clause-near : goal.draw_with-requires-clause-near
-draw_with-requires-clause-near c =
+pub hot_part_with-requires-clause-near : goal.hot_part_with-requires-clause-near
+hot_part_with-requires-clause-near c =
     near_bound (frame_of c.args.self.now) c.args.s.now c.frame.ensures.kept c.requires.within c.requires.met
 
 coming : (c : After-result-3-1) → IsComing c.args.self.now c.args.s.now c.index_of-at.result
@@ -74,7 +74,7 @@ own_is c =
 pub invariant_of-result : goal.invariant_of-result
 invariant_of-result c =
     let inv =
-    subst (λ (t : TileContent). IsTile t (drawn_spots c.self.inside.drawn) (drawn_rows t.segments c.self.inside.drawn)) c.self.view_is c.self.invariant in
+    subst (λ (t : TileContent). IsTile t (part_spots c.self.inside.hot_part) (part_rows t.segments c.self.inside.hot_part)) c.self.view_is c.self.invariant in
     let made : c.deref-2.result.now
     ≡ merged (spots_in c.args.self.now) (own_spots (frame_of c.args.self.now) c.args.self.now.segments c.args.s.now) =
     c.deref-2.ensures.value ∙ c.in_ok-merge.ensures.spots
@@ -86,12 +86,12 @@ invariant_of-result c =
     ∙ ap (λ (xs : List Spot). fresh_keys xs c.deref.result.now) c.spots.ensures.value
     ∙ ap (λ (ys : List Spot). fresh_keys (spots_in c.args.self.now) ys) (own_is c) in
     let tile =
-    grown c.args.self.now c.args.s.now (drawn_spots c.self.inside.drawn) (drawn_rows c.args.self.now.segments c.self.inside.drawn) inv
-    c.index_of-at.result (coming c) c.deref-2.result.now c.deref-3.result.now c.in_ok-drawn.drawn made found c.in_ok-drawn.ensures in
+    grown c.args.self.now c.args.s.now (part_spots c.self.inside.hot_part) (part_rows c.args.self.now.segments c.self.inside.hot_part) inv
+    c.index_of-at.result (coming c) c.deref-2.result.now c.deref-3.result.now c.in_ok-hot_part.hot_part made found c.in_ok-hot_part.ensures in
     subst (λ (t : TileContent). IsTile (record { profile = t.profile; id = t.id; segments = c.in_ok-listed.listed })
-    (drawn_spots c.in_ok-drawn.drawn) (drawn_rows c.in_ok-listed.listed c.in_ok-drawn.drawn)) (sym c.self.view_is)
+    (part_spots c.in_ok-hot_part.hot_part) (part_rows c.in_ok-listed.listed c.in_ok-hot_part.hot_part)) (sym c.self.view_is)
     (subst (λ (us : List Segment). IsTile (record { profile = c.args.self.now.profile; id = c.args.self.now.id; segments = us })
-    (drawn_spots c.in_ok-drawn.drawn) (drawn_rows us c.in_ok-drawn.drawn)) (sym (listed_is c)) tile)
+    (part_spots c.in_ok-hot_part.hot_part) (part_rows us c.in_ok-hot_part.hot_part)) (sym (listed_is c)) tile)
 
 pub returns : goal.returns
 returns c =

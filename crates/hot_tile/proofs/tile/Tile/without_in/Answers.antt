@@ -1,5 +1,5 @@
 -- What the steps of the code made is what the tile without the segment keeps.
-use Rattle.std.proofs.Common.{rules, ◌≡◌, ◌∙◌, ◌<◌, sym, ap, subst, suc, ℕ, List, ◌++◌, length, get_or, take, drop}
+use Rattle.std.proofs.Common.{rules, ◌≡◌, ◌∙◌, ◌<◌, sym, ap, subst, suc, List, ◌++◌, length, get_or, take, drop}
 use Rattle.std.specs.Prelude.{Contains}
 use Rattle.std.specs.Ordering.{nat_cmp}
 use Rattle.std.specs.List.Sorted.{IsStrictlySortedBy}
@@ -11,12 +11,24 @@ use Rattle.hot_tile.specs.declared.spots.Spot.{Spot}
 use Rattle.hot_tile.specs.Frame.{TileFrame}
 use Rattle.hot_tile.specs.Spots.{keys, cooled, cold_keys}
 use Rattle.hot_tile.specs.Own.{own_spots}
-use Rattle.hot_tile.specs.Tile.{TileContent, IsTile, frame_of, spots_in}
-use Rattle.hot_tile.specs.Drawn.{drawn_spots, drawn_rows}
+use Rattle.hot_tile.specs.Tile.{TileContent, IsTileContent, IsTile, frame_of, spots_in}
+use Rattle.hot_tile.specs.HotPart.{part_spots, part_rows}
 use Rattle.hot_tile.proofs.OwnLaws.{own_rises}
-use Rattle.hot_tile.proofs.Changes.{shrunk, cold_rises, IsGoing, goes_within, goes_inside, goes_named, goes_out}
+use Rattle.hot_tile.proofs.Removal.{alone}
+use Rattle.hot_tile.proofs.Changes.{shrunk, near_all, IsGoing, goes_within, goes_inside, goes_named, goes_out}
 use Rattle.hot_tile.proofs.tile.Tile.without_in.Goals as goal
 use Rattle.hot_tile.proofs.tile.Tile.without_in.Goals.{After-result-3-1}
+
+pub returns-then-segments-eq1 : goal.returns-then-segments-eq1
+returns-then-segments-eq1 c =
+    let one : length c.args.self.now.segments ≡ 1 =
+    subst (λ (us : List Segment). length us ≡ 1) c.segments-segments.ensures.value c.if-segments-eq1.true in
+    c.empty.ensures
+    ∙ (λ i. record {
+      profile = (c.self.view_is i).profile;
+      id = (c.self.view_is i).id;
+      segments = alone c.args.self.now.segments c.args.name one c.requires i;
+    })
 
 pub offset_bounds-segments-at : goal.offset_bounds-segments-at
 offset_bounds-segments-at c =
@@ -60,8 +72,8 @@ without-requires c =
     } in
     subst (λ (t : TileContent). c.index_of-at.result < length t.segments) (sym c.self.view_is) (goes_within g)
 
-pub draw_without-requires-clause-within : goal.draw_without-requires-clause-within
-draw_without-requires-clause-within c =
+pub hot_part_without-requires-clause-within : goal.hot_part_without-requires-clause-within
+hot_part_without-requires-clause-within c =
     let g : IsGoing c.args.self.now c.segments-segments.result.now c.args.name c.index_of-at.result =
     record {
       same = c.segments-segments.ensures.value;
@@ -72,10 +84,19 @@ draw_without-requires-clause-within c =
     } in
     goes_within g
 
-pub draw_without-requires-clause-rising : goal.draw_without-requires-clause-rising
-draw_without-requires-clause-rising c =
-    subst (IsStrictlySortedBy nat_cmp) (sym (c.deref-4.ensures.value ∙ c.in_ok-cool.ensures.cold))
-    (cold_rises c.spots.result.now c.deref.result.now c.spots.ensures.rising)
+pub hot_part_without-requires-clause-near : goal.hot_part_without-requires-clause-near
+hot_part_without-requires-clause-near c =
+    let g : IsGoing c.args.self.now c.segments-segments.result.now c.args.name c.index_of-at.result =
+    record {
+      same = c.segments-segments.ensures.value;
+      order = c.segments-segments.ensures.kept.rising;
+      lesser = c.index_of-at.ensures.lesser;
+      others = c.index_of-at.ensures.others;
+      there = c.requires;
+    } in
+    let content : IsTileContent c.args.self.now = subst IsTileContent c.self.view_is c.self.invariant.content in
+    near_all (get_or c.args.self.now.segments c.index_of-at.result c.index-segments-at.result) content
+    (Contains-get_or c.args.self.now.segments c.index_of-at.result c.index-segments-at.result (goes_within g))
 
 listed_is : (c : After-result-3-1) → c.in_ok-listed.listed ≡ without_name c.args.self.now.segments c.args.name
 listed_is c =
@@ -109,7 +130,7 @@ invariant_of-result c =
       there = c.requires;
     } in
     let inv =
-    subst (λ (t : TileContent). IsTile t (drawn_spots c.self.inside.drawn) (drawn_rows t.segments c.self.inside.drawn)) c.self.view_is c.self.invariant in
+    subst (λ (t : TileContent). IsTile t (part_spots c.self.inside.hot_part) (part_rows t.segments c.self.inside.hot_part)) c.self.view_is c.self.invariant in
     let read : c.index-segments-at.result ≡ get_or c.args.self.now.segments c.index_of-at.result c.index-segments-at.result =
     c.index-segments-at.is
     ∙ ap (λ (us : List Segment). get_or us c.index_of-at.result c.index-segments-at.result) c.segments-segments.ensures.value in
@@ -121,26 +142,26 @@ invariant_of-result c =
     let out =
     subst (λ (n : Label). take c.index_of-at.result c.args.self.now.segments ++ drop (suc c.index_of-at.result) c.args.self.now.segments
     ≡ without_name c.args.self.now.segments n) (sym name) (goes_out g) in
-    let made : c.deref-3.result.now
+    let made : c.deref-2.result.now
     ≡ cooled (spots_in c.args.self.now) (own_spots (frame_of c.args.self.now) c.args.self.now.segments c.index-segments-at.result) =
-    c.deref-3.ensures.value ∙ c.in_ok-cool.ensures.spots
+    c.deref-2.ensures.value ∙ c.in_ok-cool.ensures.spots
     ∙ ap (λ (xs : List Spot). cooled xs c.deref.result.now) c.spots.ensures.value
     ∙ ap (λ (ys : List Spot). cooled (spots_in c.args.self.now) ys) (own_is c) in
-    let cold : c.deref-4.result.now
+    let cold : c.deref-3.result.now
     ≡ cold_keys (spots_in c.args.self.now) (own_spots (frame_of c.args.self.now) c.args.self.now.segments c.index-segments-at.result) =
-    c.deref-4.ensures.value ∙ c.in_ok-cool.ensures.cold
+    c.deref-3.ensures.value ∙ c.in_ok-cool.ensures.cold
     ∙ ap (λ (xs : List Spot). cold_keys xs c.deref.result.now) c.spots.ensures.value
     ∙ ap (λ (ys : List Spot). cold_keys (spots_in c.args.self.now) ys) (own_is c) in
     let tile =
-    shrunk c.args.self.now c.index-segments-at.result (drawn_spots c.self.inside.drawn) (drawn_rows c.args.self.now.segments c.self.inside.drawn) inv
-    live c.index_of-at.result out c.deref-3.result.now c.deref-4.result.now c.in_ok-drawn.drawn made cold c.in_ok-drawn.ensures in
+    shrunk c.args.self.now c.index-segments-at.result (part_spots c.self.inside.hot_part) (part_rows c.args.self.now.segments c.self.inside.hot_part) inv
+    live c.index_of-at.result out c.deref-2.result.now c.deref-3.result.now c.in_ok-hot_part.hot_part made cold c.in_ok-hot_part.ensures in
     let tile_named =
     subst (λ (n : Label). IsTile (record { profile = c.args.self.now.profile; id = c.args.self.now.id; segments = without_name c.args.self.now.segments n })
-    (drawn_spots c.in_ok-drawn.drawn) (drawn_rows (without_name c.args.self.now.segments n) c.in_ok-drawn.drawn)) name tile in
+    (part_spots c.in_ok-hot_part.hot_part) (part_rows (without_name c.args.self.now.segments n) c.in_ok-hot_part.hot_part)) name tile in
     subst (λ (t : TileContent). IsTile (record { profile = t.profile; id = t.id; segments = c.in_ok-listed.listed })
-    (drawn_spots c.in_ok-drawn.drawn) (drawn_rows c.in_ok-listed.listed c.in_ok-drawn.drawn)) (sym c.self.view_is)
+    (part_spots c.in_ok-hot_part.hot_part) (part_rows c.in_ok-listed.listed c.in_ok-hot_part.hot_part)) (sym c.self.view_is)
     (subst (λ (us : List Segment). IsTile (record { profile = c.args.self.now.profile; id = c.args.self.now.id; segments = us })
-    (drawn_spots c.in_ok-drawn.drawn) (drawn_rows us c.in_ok-drawn.drawn)) (sym (listed_is c)) tile_named)
+    (part_spots c.in_ok-hot_part.hot_part) (part_rows us c.in_ok-hot_part.hot_part)) (sym (listed_is c)) tile_named)
 
 pub returns : goal.returns
 returns c =
