@@ -1,5 +1,6 @@
 //! A tile in plain Rust, with the flat layout of `hot_tile`. It takes the words of `bench_tile` and
-//! prints the same counts.
+//! prints the same counts. Both look, before a segment comes, whether its name is new and whether it
+//! meets the tile, and before it goes, whether it is there.
 
 #[derive(Clone, Copy, PartialEq, Eq)]
 struct Point {
@@ -197,6 +198,18 @@ impl Tile {
 
     fn pixel(&self, key: u32) -> Point {
         Point { x: self.lo.x + (key >> 16) as i64, y: self.lo.y + (key & 0xffff) as i64 }
+    }
+
+    /// Whether the tile has the segment of this name.
+    fn has(&self, name: u32) -> bool {
+        let all = self.segments.all();
+        all.get(all.partition_point(|t| t.name < name)).is_some_and(|t| t.name == name)
+    }
+
+    /// Whether the segment is new and meets the tile.
+    fn takes(&self, s: &Segment) -> bool {
+        let last = self.side as i64 - 1;
+        !self.has(s.name) && s.meets(self.lo, Point { x: self.lo.x + last, y: self.lo.y + last })
     }
 
     fn spots(&self) -> &[Spot] {
@@ -435,13 +448,18 @@ fn main() {
     let mut scratch = Scratch::default();
     let mut tile = Tile::empty(Point { x: 0, y: 0 }, 256);
     for number in 0..count {
-        tile = tile.with_segment(&segment(work, &mut draws, 2 * number + 2), &mut scratch);
+        let s = segment(work, &mut draws, 2 * number + 2);
+        assert!(tile.takes(&s));
+        tile = tile.with_segment(&s, &mut scratch);
     }
     let mut sum = 0u64;
     for round in 0..rounds {
         let number = 2 * (round % (count + 1)) + 1;
-        let more = tile.with_segment(&segment(work, &mut draws, number), &mut scratch);
+        let s = segment(work, &mut draws, number);
+        assert!(tile.takes(&s));
+        let more = tile.with_segment(&s, &mut scratch);
         sum = sum.wrapping_add(more.passes());
+        assert!(more.has(number));
         tile = more.without(number, &mut scratch);
         sum = sum.wrapping_add(tile.passes());
     }
