@@ -16,7 +16,7 @@
 //!
 //! A change makes a new tile. The ends and crossings that the segment has in the tile are counted and
 //! merged with the hot pixels, or taken away from them. Pixels that became hot are put into the rows
-//! of the segments that meet them, and pixels that became cold are taken out of all rows: taking 1.3
+//! of the segments that meet them, and pixels that became cold are taken out of these rows: taking 1.3
 //! out leaves (3,1) hot, and makes (2,1) cold, which the other two only pass. All of it is made in
 //! scratch that the caller may lend, and then copied, each vector at its size.
 //!
