@@ -25,7 +25,8 @@ step b bs = refl
 ended_step : (feed : Bool) (b n : ℕ) (bs : List ℕ)
     → (n < length bs → lines_of bs ≡ take n bs ∷ lines_of (drop (n + 1) bs))
     → cond (not feed) (1 + n) 0 < length (b ∷ bs)
-    → cond feed ([] ∷ lines_of bs) (onto_first b (lines_of bs)) ≡ take (cond (not feed) (1 + n) 0) (b ∷ bs) ∷ lines_of (drop (cond (not feed) (1 + n) 0 + 1) (b ∷ bs))
+    → cond feed ([] ∷ lines_of bs) (onto_first b (lines_of bs))
+    ≡ take (cond (not feed) (1 + n) 0) (b ∷ bs) ∷ lines_of (drop (cond (not feed) (1 + n) 0 + 1) (b ∷ bs))
 ended_step true b n bs h k = refl
 ended_step false b n bs h k =
     let within : n < length bs = omega arith in

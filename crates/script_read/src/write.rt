@@ -1,6 +1,6 @@
 //! Replies as text, appended to a buffer.
 
-ghost use Rattle.std.specs.Prelude.{◌≡◌, ◌++◌, OnOk, OnErr, codes, decimal, length, flat_map};
+ghost use Rattle.std.specs.Prelude.{◌≡◌, ◌++◌, OnOk, OnErr, codes, decimal, flat_map};
 ghost use Rattle.std.specs.Fmt.{signed_decimal};
 ghost use Rattle.seg_text.specs.Text.{BeginsWith, name_text, spaced_point};
 ghost use Rattle.script_read.specs.Reply.{spaced_tile, spaced_edge};

@@ -1,5 +1,5 @@
--- Numbers, names and points as text: numbers in decimal without leading zeros, a negative one with a
--- minus sign.
+-- Numbers, names and points as text: numbers in decimal without leading zeros, a negative one with
+-- a minus sign.
 use Rattle.std.specs.Prelude.{◌≡◌, ℕ, List, ◌++◌, codes, decimal, length, take}
 use Rattle.std.specs.Fmt.{signed_decimal}
 use Rattle.grid_core.specs.declared.point.Point.{Point}

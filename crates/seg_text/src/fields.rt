@@ -1,6 +1,6 @@
 //! Fields of a line: the longest runs of bytes other than space and tab.
 
-ghost use Rattle.std.specs.Prelude.{◌≡◌, ℕ, ◌+◌, ◌-◌, ◌<◌, ◌≤◌, ◌↔◌, [], ◌∷◌, true, false, length};
+ghost use Rattle.std.specs.Prelude.{◌≡◌, ◌+◌, ◌-◌, ◌<◌, ◌≤◌, ◌↔◌, [], ◌∷◌, false, length};
 ghost use Rattle.std.specs.Prelude.{drop, slice_index, slice_range, IsNone, IfSome};
 ghost use Rattle.seg_text.specs.Fields.{is_blank, fields_of, fields_from, IsSpan, IsRun};
 

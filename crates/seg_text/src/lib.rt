@@ -1,7 +1,8 @@
 //! Numbers and names as text, from bytes and to bytes.
 //!
-//! A line of text has fields: the longest runs of bytes other than space and tab. A field is read as a
-//! whole number, an editor or a name, or it is refused; numbers and names are written in one way alone.
+//! A line of text has fields: the longest runs of bytes other than space and tab. A field is read as
+//! a whole number, an editor or a name, or it is refused; numbers and names are written in one way
+//! alone.
 //!
 //! ```text
 //!    line            __1_delete__12.0007     _ is a space or a tab

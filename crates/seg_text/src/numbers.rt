@@ -1,6 +1,7 @@
 //! Whole numbers, editors and names, read from fields.
 
-ghost use Rattle.std.specs.Prelude.{◌≡◌, pos, ◌-ℤ◌, ◌<◌, ◌≤◌, ◌^◌, ◌==◌, position, unsigned_abs, IfSome};
+ghost use Rattle.std.specs.Prelude.{◌≡◌, pos, ◌-ℤ◌, ◌<◌, ◌≤◌, ◌^◌, ◌==◌};
+ghost use Rattle.std.specs.Prelude.{position, unsigned_abs, IfSome};
 ghost use Rattle.seg_text.specs.Numbers.{digits_of, whole_of, editor_of, serial_of, name_of};
 
 use grid_core::Name;

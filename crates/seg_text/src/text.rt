@@ -3,7 +3,8 @@
 
 ghost use Rattle.std.specs.Prelude.{◌≡◌, ◌++◌, OnOk, OnErr, decimal, flat_map};
 ghost use Rattle.std.specs.Fmt.{signed_decimal};
-ghost use Rattle.seg_text.specs.Text.{BeginsWith, name_text, point_text, spaced_point, spaced_name};
+ghost use Rattle.seg_text.specs.Text.{BeginsWith, name_text, point_text};
+ghost use Rattle.seg_text.specs.Text.{spaced_point, spaced_name};
 
 use grid_core::{Memory, Name, Point};
 use itoa::Buffer;
@@ -92,7 +93,8 @@ pub fn push_point(out: &mut Vec<u8>, at: Point) -> Result<(), Memory>
 
 /// The points, each behind a space.
 pub fn push_points(out: &mut Vec<u8>, points: &[Point]) -> Result<(), Memory>
-    ensures text { OnOk result (out.new.items ≡ out.old.items ++ flat_map spaced_point points.now) }
+    ensures text { OnOk result (out.new.items
+        ≡ out.old.items ++ flat_map spaced_point points.now) }
     ensures memory { OnErr result (BeginsWith out.new.items out.old.items) }
 {
     for at in points {

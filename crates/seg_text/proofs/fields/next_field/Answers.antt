@@ -17,7 +17,8 @@ is_some : (c : After-run_end) → c.blanks_end-start.result < c.run_end.result
 is_some c = some_run _ _ _ c.run_end.ensures.run (goes_on c) (c.blanks_end-start.ensures.ended (goes_on c))
 
 first : (c : After-run_end)
-    → fields_from c.args.line.now c.args.from ≡ slice_range c.args.line.now c.blanks_end-start.result c.run_end.result ∷ fields_from c.args.line.now c.run_end.result
+    → fields_from c.args.line.now c.args.from
+    ≡ slice_range c.args.line.now c.blanks_end-start.result c.run_end.result ∷ fields_from c.args.line.now c.run_end.result
 first c =
     first_and_rest _ _ _ _ _ c.open_end.ensures.fields c.blanks_end-start.ensures.fields c.run_end.ensures.run (is_some c)
 
