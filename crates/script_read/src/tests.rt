@@ -17,7 +17,9 @@ fn insert(x1: i64, y1: i64, x2: i64, y2: i64) -> Act {
 }
 
 #[test]
-fn lines(rt: HostRuntime) {
+fn lines(rt: HostRuntime) -> Result<(), Memory> {
+    let mut too_long = Vec::from_slice(rt.alloc(), b"1 take")?;
+    too_long.resize(6 + 4091, b' ')?;
     for (number, line, want) in [
         (1, b"# a comment".as_slice(), Line::Quiet),
         (2, b"", Line::Quiet),
@@ -28,12 +30,14 @@ fn lines(rt: HostRuntime) {
         (7, b"1 insert 1 1 2 2", order(1, insert(1, 1, 2, 2))),
         (8, b"1 erase 1.1", Line::Bad),
         (9, b"1 drop", order(1, Act::Drop)),
+        (10, too_long.as_slice(), Line::Bad),
         (11, b"1 insert 0 0 +1 0", Line::Bad),
         (12, b"1 route 1.0", Line::Bad),
         (13, b"1 drop", order(1, Act::Drop)),
     ] {
         assert!(rt; read_line(line) == want, "line {number}");
     }
+    Ok(())
 }
 
 #[test]

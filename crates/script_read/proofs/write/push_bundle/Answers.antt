@@ -1,5 +1,5 @@
 use Rattle.script_read.specs.Reply.{said_text}
-use Rattle.script_read.proofs.Appended.{in_three, fails_in_three}
+use Rattle.seg_text.proofs.Buffers.{in_three, fails_in_three}
 use Rattle.script_read.proofs.write.push_bundle.Goals as goal
 
 pub returns-clause-text : goal.returns-clause-text
