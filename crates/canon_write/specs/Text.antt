@@ -45,10 +45,14 @@ unfoldable pub edges_part : List BundledEdge → List ℕ
 edges_part edges =
     codes "edges " ++ decimal (length edges) ++ codes "\n" ++ flat_map edge_line edges
 
+-- which version it is
+unfoldable pub heading : ℕ → List ℕ
+heading n = codes "arrangement " ++ decimal n ++ codes "\n"
+
 -- the text of version n with this rounding
 unfoldable pub picture_text : ℕ → SnapRounding → List ℕ
 picture_text n picture =
-    codes "arrangement " ++ decimal n ++ codes "\n"
+    heading n
     ++ segments_part picture.routes ++ vertices_part picture.vertices ++ edges_part picture.edges
     ++ codes "end\n"
 

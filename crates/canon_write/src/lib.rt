@@ -18,4 +18,4 @@ mod arrangement;
 #[cfg(test)]
 mod tests;
 
-pub use arrangement::arrangement_text;
+pub use arrangement::{arrangement_text, push_arrangement};

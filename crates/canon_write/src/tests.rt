@@ -95,5 +95,9 @@ fn an_empty_drawing(rt: HostRuntime) -> Result<(), Memory> {
     let picture = Rounding::of_parts(Vec::new(alloc), Vec::new(alloc), Vec::new(alloc));
     let text = arrangement_text(alloc, 0, &picture)?;
     assert!(rt; text.as_slice() == EMPTY.as_bytes());
+    let mut out = Vec::from_slice(alloc, b"final\n")?;
+    push_arrangement(&mut out, 0, &picture)?;
+    let want = b"final\narrangement 0\nsegments 0\nvertices 0\nedges 0\nend\n";
+    assert!(rt; out.as_slice() == want.as_slice());
     Ok(())
 }

@@ -3,6 +3,6 @@ use Rattle.std.proofs.lemmas.Result.{IfOk-equal}
 use Rattle.canon_write.specs.Text.{segment_text}
 use Rattle.canon_write.proofs.arrangement.push_segment.Goals as goal
 
-pub returns : goal.returns
+pub returns-clause-text : goal.returns-clause-text
 unfolding segment_text
-returns c = search (rules, IfOk-equal, append_assoc)
+returns-clause-text c = search (rules, IfOk-equal, append_assoc)

@@ -1,0 +1,8 @@
+use Rattle.std.proofs.Common.{rules, append_assoc}
+use Rattle.std.proofs.lemmas.Result.{IfOk-equal}
+use Rattle.canon_write.specs.Text.{picture_text}
+use Rattle.canon_write.proofs.arrangement.push_arrangement.Goals as goal
+
+pub returns-clause-text : goal.returns-clause-text
+unfolding picture_text
+returns-clause-text c = search (rules, IfOk-equal, append_assoc)
