@@ -13,13 +13,13 @@ use Rattle.grid_core.specs.Name.{Label, label_cmp}
 use Rattle.grid_core.specs.Segment.{Segment, IsSegment, segment_of}
 use Rattle.grid_core.specs.LiveList.{names, with_segment}
 use Rattle.grid_core.proofs.Order.{point_lesser}
-use Rattle.snapround.specs.Machine.{State, start, IsState, IsNext, IsDrawnBy, leaves_bound, refusal, drawn, after_commit}
+use Rattle.snapround.specs.Machine.{bound, State, start, IsState, IsNext, IsDrawnBy, leaves_bound, refusal, drawn, after_commit}
 
 pub start_kept : IsState start
 unfolding IsStrictlySortedBy
 start_kept =
     record {
-      live = record { rising = tt; within = All-nil (IsSegment 1048576) };
+      live = record { rising = tt; within = All-nil (IsSegment bound) };
       drawn = All-nil (IsDrawnBy 0);
       prepared = tt;
       counted = refl;
@@ -28,10 +28,10 @@ start_kept =
       inserts = omega arith;
     }
 
-inside : (a : Point) → IsWithin 1048576 a → leaves_bound a ≡ false
+inside : (a : Point) → IsWithin bound a → leaves_bound a ≡ false
 inside a h =
-    let x : nat_lt 1048576 (unsigned_abs a.x) ≡ false = grind (arith, nat_tests, h.x) in
-    let y : nat_lt 1048576 (unsigned_abs a.y) ≡ false = grind (arith, nat_tests, h.y) in
+    let x : nat_lt bound (unsigned_abs a.x) ≡ false = grind (arith, nat_tests, h.x) in
+    let y : nat_lt bound (unsigned_abs a.y) ≡ false = grind (arith, nat_tests, h.y) in
     simp (x, y)
 
 unlike : (a b : Point)
@@ -41,7 +41,7 @@ unlike a b h = ⊎_elim (λ e. ap is_eq e) (λ e. ap is_eq (point_lesser b a e))
 
 not_refused_of : (st : State) (in_order : Bool) (name : Label) (a b : Point)
     → is_some st.prepared ≡ false
-    → IsSegment 1048576 (cond in_order (record { name = name; p = a; q = b }) (record { name = name; p = b; q = a }))
+    → IsSegment bound (cond in_order (record { name = name; p = a; q = b }) (record { name = name; p = b; q = a }))
     → refusal st a b ≡ None
 not_refused_of st true name a b free s =
     simp (free, inside a s.p_within, inside b s.q_within, unlike a b (inl s.ordered))
@@ -51,7 +51,7 @@ not_refused_of st false name a b free s =
 -- an insertion that makes a segment isn't refused
 pub not_refused : (st : State) (name : Label) (a b : Point)
     → is_some st.prepared ≡ false
-    → IsSegment 1048576 (segment_of name a b)
+    → IsSegment bound (segment_of name a b)
     → refusal st a b ≡ None
 not_refused st name a b free s = not_refused_of st (is_lt (point_cmp a b)) name a b free s
 
@@ -148,7 +148,7 @@ commit_kept st s h e =
     ∙ ap (λ k. record { editor = 1; serial = k }) last in
     let below = All-weaker (IsDrawnBy n) (λ t. label_cmp t.name s.name ≡ Less) (λ t d. before n t s.name d named) st.live next.before in
     record {
-      live = record { rising = rising_push st.live s h.live.rising below; within = All-push (IsSegment 1048576) st.live s h.live.within next.within };
+      live = record { rising = rising_push st.live s h.live.rising below; within = All-push (IsSegment bound) st.live s h.live.within next.within };
       drawn = All-push (IsDrawnBy st.serial) st.live s h.drawn (record { editor = ap (λ (k : Label). k.editor) next.named; serial = omega (arith, ap (λ (k : Label). k.serial) next.named) });
       prepared = tt;
       counted = omega (arith, length-append st.live (s ∷ []), h.counted);

@@ -13,8 +13,12 @@ use Rattle.snapround.specs.declared.reply.Refusal.TheVariants.{Busy, Range, Poin
 use Rattle.snapround.specs.Script.{command_of, lines_of}
 use Rattle.snapround.specs.Reply.{bad_text, ready_text, refused_text, none_text, commit_text}
 
--- the live list, the change that is prepared, the number of commits, the last serial, and the insert
--- lines taken so far
+-- how far coordinates reach
+abbrev pub bound : ℕ
+bound = 1048576
+
+-- the live list, the change that is prepared, the number of commits, the last serial, and the
+-- insert lines taken so far
 pub record State : Type 0 where
   pub live : List Segment
   pub prepared : Option Segment
@@ -33,7 +37,7 @@ pub record IsDrawnBy (n : ℕ) (s : Segment) : Type 0 where
 
 -- the segment has the last serial, and the live ones have those before it
 pub record IsNext (st : State) (s : Segment) : Type 0 where
-  pub within : IsSegment 1048576 s
+  pub within : IsSegment bound s
   pub named : s.name ≡ record { editor = 1; serial = st.serial }
   pub serial : 0 < st.serial
   pub before : All (IsDrawnBy (st.serial - 1)) st.live
@@ -42,7 +46,7 @@ pub record IsNext (st : State) (s : Segment) : Type 0 where
 -- what holds in every state: serials rise along the live list, each commit drew one segment, and
 -- there are no more commits than serials and no more serials than insert lines
 pub record IsState (st : State) : Type 0 where
-  pub live : IsLiveList 1048576 st.live
+  pub live : IsLiveList bound st.live
   pub drawn : All (IsDrawnBy st.serial) st.live
   pub prepared : IfSome st.prepared (IsNext st)
   pub counted : length st.live ≡ st.commits
@@ -52,7 +56,7 @@ pub record IsState (st : State) : Type 0 where
 
 -- some coordinate is greater in size than the bound
 abbrev pub leaves_bound : Point → Bool
-leaves_bound a = nat_lt 1048576 (unsigned_abs a.x) || nat_lt 1048576 (unsigned_abs a.y)
+leaves_bound a = nat_lt bound (unsigned_abs a.x) || nat_lt bound (unsigned_abs a.y)
 
 -- the segment that an insertion prepares
 abbrev pub drawn : State → Point → Point → Segment

@@ -1,7 +1,14 @@
 -- Replies: one line each, with one space between two fields. The editor is 1.
 use Rattle.std.specs.Prelude.{ℕ, List, ◌++◌, codes, decimal}
+use Rattle.grid_core.specs.declared.segment.EndFault.{EndFault}
+use Rattle.grid_core.specs.declared.segment.EndFault.TheVariants.{Range as TooFar, Point as OnePoint}
 use Rattle.snapround.specs.declared.reply.Refusal.{Refusal}
 use Rattle.snapround.specs.declared.reply.Refusal.TheVariants.{Busy, Range, Point}
+
+-- the refusal of an insertion whose ends make no segment
+abbrev pub refusal_of : EndFault → Refusal
+refusal_of TooFar = Range
+refusal_of OnePoint = Point
 
 -- the word for a refusal
 abbrev pub refusal_word : Refusal → List ℕ

@@ -3,16 +3,14 @@
 ghost use Rattle.std.specs.Prelude.{◌≡◌, ◌<◌, ◌++◌, Some, None, MatchResult, IfOk, OnOk, OnErr};
 ghost use Rattle.std.specs.Prelude.{is_none};
 ghost use Rattle.grid_core.specs.Segment.{IsSegment};
-ghost use Rattle.snapround.specs.Machine.{start, drawn, refusal, after_insert, insert_reply};
+ghost use Rattle.snapround.specs.Machine.{bound, start, drawn, refusal, after_insert, insert_reply};
 ghost use Rattle.snapround.specs.Machine.{after_commit, commit_reply, after_command, command_reply};
 ghost use Rattle.snapround.specs.Machine.{shown, allowed, accepted, after, reply};
 
-use crate::reply::{
-    Refusal, push_bad, push_commit, push_none, push_ready, push_refused, push_text,
-};
+use crate::reply::{Refusal, push_bad, push_commit, push_none, push_ready, push_refused};
 use crate::script::{Command, read_line};
-use canon_write::arrangement_text;
-use grid_core::{EndFault, Memory, Name, Point, Profile, Ur};
+use canon_write::push_arrangement;
+use grid_core::{Memory, Name, Point, Profile, Ur};
 use round_plain::round;
 use std::alloc::Global;
 use std::marker::Model;
@@ -149,17 +147,14 @@ impl Machine {
         ensures refused { MatchResult result (λ _. refusal self.now a b ≡ None)
             (λ why. refusal self.now a b ≡ Some why) }
         ensures value { IfOk result (λ s. s ≡ drawn self.now a b) }
-        ensures within { IfOk result (IsSegment 1048576) }
+        ensures within { IfOk result (IsSegment bound) }
     {
         if self.prepared.is_some() {
             return Err(Refusal::Busy);
         }
         let name = Name::new(1, self.serial + 1).unwrap();
-        match Ur::new(&Profile::edition_one(), name, a, b) {
-            Ok(segment) => Ok(segment),
-            Err(EndFault::Range) => Err(Refusal::Range),
-            Err(EndFault::Point) => Err(Refusal::Point),
-        }
+        let segment = Ur::new(&Profile::edition_one(), name, a, b)?;
+        Ok(segment)
     }
 
     /// Makes the prepared segment part of the drawing, where there is one.
@@ -185,9 +180,7 @@ impl Machine {
     fn show(&self, out: &mut Vec<u8>) -> Result<(), Memory>
         ensures { OnOk result (out.new.items ≡ out.old.items ++ shown self.now) }
     {
-        let alloc = *self.live.allocator();
-        let picture = round(alloc, &self.live)?;
-        let text = arrangement_text(alloc, self.commits, &picture)?;
-        push_text(out, &text)
+        let picture = round(*self.live.allocator(), &self.live)?;
+        push_arrangement(out, self.commits, &picture)
     }
 }
