@@ -4,7 +4,7 @@ use Rattle.std.proofs.Common.{◌≡◌, ℕ, ◌+◌, ◌-◌, ◌<◌, ◌≤�
 use Rattle.std.proofs.lemmas.List.{drop_all, take_all, take_at, take_rest, drop-drop, length-drop, length-take, length-take-le}
 use Rattle.std.proofs.Math.Seq.{take-add, take-append-add}
 use Rattle.std.specs.Io.KnownBytes.{Appends, Consumes, Keeps}
-use Rattle.std.proofs.KnownBytes.{Appends-kept, Appends-nil, Appends-trans, Consumes-trans}
+use Rattle.std.proofs.KnownBytes.{Appends-kept, Appends-trans, Consumes-trans}
 use Rattle.io_ports.specs.Transfers.{TakesAtMost, TakesExactly, WritesPrefix}
 
 -- the front of what is left from an index on fills the front of a buffer, as far as either goes
@@ -44,10 +44,6 @@ takes_just a b c bs buf n count p q h e = (bs ++ take n buf, Consumes-trans a b 
 pub kept_whole : (a b c : Option (List ℕ)) (bs : List ℕ) → Appends a b bs → Keeps b c → WritesPrefix a c bs
 kept_whole a b c bs p k = (length bs, subst (Appends a c) (sym (take_all (length bs) bs (omega arith))) (Appends-kept a b c bs p k))
 
--- a prefix was written, and then nothing
-pub prefix_kept : (a b c : Option (List ℕ)) (bs : List ℕ) → WritesPrefix a b bs → Keeps b c → WritesPrefix a c bs
-prefix_kept a b c bs p k = (p.0, Appends-kept a b c (take p.0 bs) p.1 k)
-
 -- a whole list was written, and then a prefix of another
 pub prefix_more : (a b c : Option (List ℕ)) (xs ys : List ℕ) → Appends a b xs → WritesPrefix b c ys → WritesPrefix a c (xs ++ ys)
 prefix_more a b c xs ys p q = (length xs + q.0, subst (Appends a c) (sym (take-append-add xs ys q.0)) (Appends-trans a b c xs (take q.0 ys) p q.1))
@@ -61,7 +57,3 @@ pub front_more : (a b c : Option (List ℕ)) (bs : List ℕ) (d n : ℕ) → App
 front_more a b c bs d n p q =
     let rest : Appends b c (take n (drop d bs)) = rw take_rest at q in
     subst (Appends a c) (sym (take-add d n bs)) (Appends-trans a b c (take d bs) (take n (drop d bs)) p rest)
-
--- nothing was written
-pub nothing_written : (a : Option (List ℕ)) (bs : List ℕ) → WritesPrefix a a bs
-nothing_written a bs = (0, Appends-nil a)
