@@ -2,7 +2,7 @@
 //! first word is the number of rounds that each thread takes, its second the number of threads.
 #![tactic(auto)]
 
-ghost use Rattle.std.specs.Prelude.{◌≡◌, ℕ, ◌<◌, ◌≤◌, IfOk, vec_len, slice_index_or};
+ghost use Rattle.std.specs.Prelude.{ℕ, ◌<◌, ◌≤◌, IfOk, vec_len, slice_index_or};
 ghost use Rattle.turn_lock.specs.Pass.{known, IsReady};
 ghost use Rattle.turn_lock.specs.Turn.{turn_id};
 
