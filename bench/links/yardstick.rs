@@ -1,7 +1,8 @@
 //! The yardsticks of `bench_links`: the same work in Rust on four structures. `same` is the proved
 //! one's own: nodes in two lists at once, linked both ways, in a slab, and their pixels beside. `small` has nodes of
 //! four 32-bit indices, which name the places of the heads, in a plain vector. `flat` has the passes in two vectors in order, by
-//! segment and by pixel. `plain` has a vector of pixels for each segment, in a map.
+//! segment and by pixel. `plain` has a vector of pixels for each segment, in a map. `keys` has one vector of 32-bit keys, each a
+//! segment's place among the names and a pixel of the tile.
 use std::collections::BTreeMap;
 use std::env;
 use std::hint::black_box;
@@ -30,6 +31,15 @@ trait Lists: Clone {
 
     fn has(&self, name: Name, pixel: Point) -> bool;
     fn link_between(&mut self, name: Name, pixel: Point, after: Option<Point>);
+
+    fn link_run(&mut self, name: Name, after: Option<Point>, run: &[Point]) {
+        let mut after = after;
+        for pixel in run {
+            self.link_between(name, *pixel, after);
+            after = Some(*pixel);
+        }
+    }
+
     fn unlink_pixel(&mut self, pixel: Point);
     fn unlink_segment(&mut self, name: Name);
     fn along(&self, name: Name, visit: impl FnMut(Point));
@@ -603,6 +613,111 @@ impl Lists for Plain {
     }
 }
 
+// ---- one vector of keys
+
+#[derive(Clone)]
+struct Keys {
+    names: Vec<Name>,
+    passes: Vec<u32>,
+}
+
+/// The pixel by its column and its row in a tile of 256 by 256.
+fn pixel_key(pixel: Point) -> u32 {
+    ((pixel.x as u32 & 255) << 8) | (pixel.y as u32 & 255)
+}
+
+fn point_of_key(key: u32) -> Point {
+    Point { x: i64::from(key >> 8 & 255), y: i64::from(key & 255) }
+}
+
+impl Keys {
+    /// Where the segment's run of keys begins and ends.
+    fn run(&self, segment: usize) -> (usize, usize) {
+        let start = self.passes.partition_point(|key| (key >> 16) < segment as u32);
+        let len = self.passes[start..].partition_point(|key| (key >> 16) == segment as u32);
+        (start, start + len)
+    }
+
+    /// The segment's place among the names, where it is put in if it is new.
+    fn place_of(&mut self, name: Name) -> usize {
+        match self.names.binary_search(&name) {
+            Ok(i) => i,
+            Err(i) => {
+                let start = self.run(i).0;
+                self.names.insert(i, name);
+                self.passes[start..].iter_mut().for_each(|key| *key += 1 << 16);
+                i
+            }
+        }
+    }
+}
+
+impl Lists for Keys {
+    fn open() -> Keys {
+        Keys { names: Vec::new(), passes: Vec::new() }
+    }
+
+    fn reserve(&mut self, more: usize) {
+        self.passes.reserve(more);
+    }
+
+    fn copy_with_room(&self, more: usize) -> Keys {
+        let mut passes = Vec::with_capacity(self.passes.len() + more);
+        passes.extend_from_slice(&self.passes);
+        Keys { names: self.names.clone(), passes }
+    }
+
+    fn has(&self, name: Name, pixel: Point) -> bool {
+        let Ok(segment) = self.names.binary_search(&name) else { return false };
+        let (start, end) = self.run(segment);
+        self.passes[start..end].contains(&((segment as u32) << 16 | pixel_key(pixel)))
+    }
+
+    fn link_between(&mut self, name: Name, pixel: Point, after: Option<Point>) {
+        self.link_run(name, after, &[pixel]);
+    }
+
+    fn link_run(&mut self, name: Name, after: Option<Point>, run: &[Point]) {
+        let segment = self.place_of(name);
+        let high = (segment as u32) << 16;
+        let (start, end) = self.run(segment);
+        let at = match after {
+            None => start,
+            Some(after) => {
+                let key = high | pixel_key(after);
+                start + self.passes[start..end].iter().position(|pass| *pass == key).map_or(end - start, |i| i + 1)
+            }
+        };
+        self.passes.splice(at..at, run.iter().map(|pixel| high | pixel_key(*pixel)));
+    }
+
+    fn unlink_pixel(&mut self, pixel: Point) {
+        let low = pixel_key(pixel);
+        self.passes.retain(|key| key & 0xffff != low);
+    }
+
+    fn unlink_segment(&mut self, name: Name) {
+        let Ok(segment) = self.names.binary_search(&name) else { return };
+        let (start, end) = self.run(segment);
+        self.passes.drain(start..end);
+    }
+
+    fn along(&self, name: Name, mut visit: impl FnMut(Point)) {
+        let Ok(segment) = self.names.binary_search(&name) else { return };
+        let (start, end) = self.run(segment);
+        self.passes[start..end].iter().for_each(|key| visit(point_of_key(*key)));
+    }
+
+    fn across(&self, pixel: Point, mut visit: impl FnMut(Name)) {
+        let low = pixel_key(pixel);
+        for key in &self.passes {
+            if key & 0xffff == low {
+                visit(self.names[(key >> 16) as usize]);
+            }
+        }
+    }
+}
+
 // ---- the work
 
 fn name_of(segment: u16) -> Name {
@@ -650,6 +765,7 @@ fn run<L: Lists>(work: &str, rounds: u32) -> u64 {
     let mut kept = L::open();
     kept.reserve(1024);
     link_all(&mut kept);
+    let line: Vec<Point> = (0..256).filter(|pixel| pixel % 4 == 0).map(pixel_of).collect();
     for _ in 0..rounds {
         match work {
             "link" => {
@@ -673,6 +789,12 @@ fn run<L: Lists>(work: &str, rounds: u32) -> u64 {
                 total += link_segment(&mut changed, 16);
                 changed.across(pixel_of(4), |name| total += u64::from(name.serial));
             }
+            "run" => {
+                let mut changed = kept.copy_with_room(64);
+                changed.link_run(name_of(16), None, &line);
+                total += line.len() as u64;
+                changed.across(pixel_of(4), |name| total += u64::from(name.serial));
+            }
             _ => total += walk_all(black_box(&kept), total),
         }
     }
@@ -686,6 +808,7 @@ fn main() {
         Some("small") => run::<Small>(&words[1], rounds),
         Some("flat") => run::<Flat>(&words[1], rounds),
         Some("plain") => run::<Plain>(&words[1], rounds),
+        Some("keys") => run::<Keys>(&words[1], rounds),
         _ => run::<Same>(&words[1], rounds),
     };
     println!("{rounds} rounds: {total}");

@@ -1,7 +1,10 @@
 //! Links, copies and walks the passes of a tile with 16 segments and 256 pixels, to be timed from
 //! outside: it prints counts, and never times. Its first word is the number of rounds, its second
-//! the work: `link`, `copy`, `change` or `walk`.
+//! the work: `link`, `copy`, `change`, `run` or `walk`.
 #![tactic(auto)]
+
+ghost use Rattle.std.specs.Prelude.{◌≡◌, true};
+ghost use Rattle.pass_links.specs.Passes.{AreFresh, has_pixel, pixels_of};
 
 use grid_core::{Memory, Name, Point};
 use pass_links::Passes;
@@ -27,8 +30,10 @@ enum Work {
     Link,
     /// A tile is copied, and one list of the copy is walked.
     Copy,
-    /// A tile is copied with room for the passes of a segment more, which is then linked.
+    /// A tile is copied with room for the passes of a segment more, which are then linked one by one.
     Change,
+    /// The same, but that they are linked as one run.
+    Run,
     /// All lists of a tile are walked.
     Walk,
 }
@@ -45,6 +50,7 @@ fn work_of(word: Option<String>) -> Option<Work> {
         "link" => Some(Work::Link),
         "copy" => Some(Work::Copy),
         "change" => Some(Work::Change),
+        "run" => Some(Work::Run),
         "walk" => Some(Work::Walk),
         _ => None,
     }
@@ -103,7 +109,7 @@ fn walk_along(passes: &Passes, name: Name) -> u64 {
     count
 }
 
-/// The sum over all lists of the tile; those of the pixels from the `first`-th on, and round to it.
+/// The sum over all lists of the tile; those of the pixels begin with the `first`-th.
 fn walk_all(passes: &Passes, first: u64) -> u64 {
     let mut sum: u64 = 0;
     for segment in 0..SEGMENTS {
@@ -134,7 +140,7 @@ fn link_round(alloc: Global) -> Result<u64, Memory> {
     Ok(linked.wrapping_add(walk_all(&passes, linked)))
 }
 
-/// A copy of the tile gets a segment more. Gives the number of its passes, and a sum over one list.
+/// A copy of the tile gets a segment more. Gives how many passes that has, and a sum over one list.
 fn change_round(passes: &Passes) -> Result<u64, Memory> {
     let mut changed = passes.copy_with_room(PASSES_OF_SEGMENT)?;
     let mut linked: u64 = 0;
@@ -144,17 +150,78 @@ fn change_round(passes: &Passes) -> Result<u64, Memory> {
     Ok(linked.wrapping_add(walk_across(&changed, pixel_of(4))))
 }
 
+/// Whether the pixel is one of the run.
+fn is_in(run: &[Point], pixel: Point) -> bool
+    ensures { result ≡ has_pixel run.now pixel }
+{
+    run.iter().any(|at| pixel == *at)
+}
+
+/// Whether no pixel of the run is one of the segment's, and no two are one.
+fn is_fresh(passes: &Passes, name: Name, run: &[Point]) -> bool
+    ensures { result ≡ true → AreFresh run.now (pixels_of passes.now name) }
+{
+    match run.split_first() {
+        None => true,
+        Some((first, rest)) => {
+            !passes.has(name, *first) && !is_in(rest, *first) && is_fresh(passes, name, rest)
+        }
+    }
+}
+
+/// The pixels of one segment.
+fn pixels_through(alloc: Global, segment: u16) -> Result<Vec<Point>, Memory> {
+    let mut run = Vec::new(alloc);
+    for pixel in 0..PIXELS {
+        if pixel % 4 == segment % 4 {
+            run.push(pixel_of(pixel))?;
+        }
+    }
+    Ok(run)
+}
+
+/// A copy of the tile gets the run. Gives the run's length, and a sum over one list.
+fn run_round(passes: &Passes, name: Name, run: &[Point]) -> Result<u64, Memory>
+    requires { AreFresh run.now (pixels_of passes.now name) }
+{
+    let mut changed = passes.copy_with_room(PASSES_OF_SEGMENT)?;
+    if run.len() > changed.spare() {
+        return Ok(0);
+    }
+    changed.link_run(name, None, run);
+    Ok((run.len() as u64).wrapping_add(walk_across(&changed, pixel_of(4))))
+}
+
+/// The sum over so many rounds, each with a copy that gets a run.
+fn run_rounds(alloc: Global, passes: &Passes, rounds: u32) -> Result<u64, Memory> {
+    let Some(name) = Name::new(1, SEGMENTS + 1) else {
+        return Ok(0);
+    };
+    let run = pixels_through(alloc, SEGMENTS)?;
+    if !is_fresh(passes, name, &run) {
+        return Ok(0);
+    }
+    let mut total: u64 = 0;
+    for _round in 0..rounds {
+        total = total.wrapping_add(run_round(passes, name, &run)?);
+    }
+    Ok(total)
+}
+
 /// The sum over so many rounds of the work.
 fn run(alloc: Global, work: Work, rounds: u32) -> Result<u64, Memory> {
     let mut passes = Passes::open(alloc);
     passes.reserve(PASSES)?;
     link_all(&mut passes);
+    if matches!(work, Work::Run) {
+        return run_rounds(alloc, &passes, rounds);
+    }
     let mut total: u64 = 0;
     for _round in 0..rounds {
         let part = match work {
             Work::Link => link_round(alloc)?,
             Work::Copy => walk_across(&passes.copy()?, pixel_of(4)),
-            Work::Change => change_round(&passes)?,
+            Work::Change | Work::Run => change_round(&passes)?,
             // each walk begins where the sum so far says, so that none is left out as a repetition
             Work::Walk => walk_all(&passes, total),
         };
