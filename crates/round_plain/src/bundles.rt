@@ -1,6 +1,6 @@
 //! The edges of the routes, with their bundles.
 
-ghost use Rattle.std.specs.Prelude.{◌≡◌, ◌++◌, ◌∷◌, [], All, fold, IfOk, OnOk};
+ghost use Rattle.std.specs.Prelude.{◌≡◌, All, fold, IfOk, OnOk};
 ghost use Rattle.std.specs.List.{IsDistinct};
 ghost use Rattle.grid_core.specs.Vector.{point_eq};
 ghost use Rattle.round_plain.specs.Bundles.{bundles, named_edges, named_edges_of, with_named_edge};

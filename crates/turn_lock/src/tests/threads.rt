@@ -1,5 +1,5 @@
 //! Threads that add numbers of their own: in the end each thread's numbers stand in their order.
-ghost use Rattle.std.specs.Prelude.{◌≡◌, ℕ, ◌+◌, ◌^◌, ◌<◌, ◌≤◌, IfOk, vec_len, slice_index_or};
+ghost use Rattle.std.specs.Prelude.{ℕ, ◌+◌, ◌^◌, ◌<◌, ◌≤◌, IfOk, vec_len, slice_index_or};
 ghost use Rattle.turn_lock.specs.Pass.{known, IsIdle, IsReady, IsStill};
 ghost use Rattle.turn_lock.specs.Turn.{turn_id};
 
