@@ -1,7 +1,7 @@
 //! A copy of a tile.
 
 use crate::Tile;
-use crate::grow::draw;
+use crate::grow::hot_part;
 use grid_core::Memory;
 
 impl Tile {
@@ -11,8 +11,8 @@ impl Tile {
     pub fn copy(&self) -> Result<Tile, Memory>
         ensures { IfOk result (λ t. t ≡ self.now) }
     {
-        let drawn = match &self.drawn {
-            Some(drawn) => Some(draw(self.alloc, &drawn.spots, &drawn.rows)?),
+        let part = match &self.hot_part {
+            Some(part) => Some(hot_part(self.alloc, &part.spots, &part.rows)?),
             None => None,
         };
         Ok(Tile {
@@ -20,7 +20,7 @@ impl Tile {
             profile: self.profile,
             id: self.id,
             listed: self.listed.copy(self.alloc)?,
-            drawn,
+            hot_part: part,
         })
     }
 }
