@@ -22,6 +22,7 @@ use Rattle.radix_map.proofs.Noted.{value_noted, edit_or, fit_from_rises}
 use Rattle.radix_map.proofs.Trees.{edited_rises, fit-append}
 use Rattle.radix_map.proofs.Values.{value_edited, own_value, key_greater}
 pub use Rattle.radix_map.proofs.Cuts.{cut, from_first, from_later, below_first, below_later, value_from}
+pub use Rattle.radix_map.proofs.Values.{same_key, key_equal}
 
 -- ---- keys still rise
 
