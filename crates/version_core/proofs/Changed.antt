@@ -60,6 +60,10 @@ module _ {K : Type 0} {R : K → K → Ordering} (o : IsTotalOrder R) (exact : C
 -- ---- no tile twice
 
 module _ (n : ℕ) where
+  -- the stamps above n
+  abbrev later : List (ℕ × Entry) → List (TileId × ℕ)
+  later es = filter (λ c. is_lt (nat_cmp n c.1)) (stamps_in es)
+
   -- entries behind a tile's key are of other tiles
   others : (t : TileId) (a b : ℕ) (es : List (ℕ × Entry)) → Rises a b es → AreKeyed es → tile_key t < a
       → AllByRecursion (λ u. tile_eq t u ≡ false) (stamped_after (stamps_in es) n)
@@ -78,7 +82,7 @@ module _ (n : ℕ) where
               omega (arith, key, below, h.0))
 
           either : (b : Bool) → AllByRecursion (λ u. tile_eq t u ≡ false)
-              (map (λ c. c.0) (cond b ((x.id, x.stamp) ∷ filter (λ c. is_lt (nat_cmp n c.1)) (stamps_in es)) (filter (λ c. is_lt (nat_cmp n c.1)) (stamps_in es))))
+              (map (λ c. c.0) (cond b ((x.id, x.stamp) ∷ later es) (later es)))
           either true = (other, rest)
           either false = rest
 
@@ -94,7 +98,7 @@ module _ (n : ℕ) where
       by (Touched x) placed rest = either (is_lt (nat_cmp n x.stamp))
         where
           either : (b : Bool) → IsDistinct (eq_by_cmp tile_cmp)
-              (map (λ c. c.0) (cond b ((x.id, x.stamp) ∷ filter (λ c. is_lt (nat_cmp n c.1)) (stamps_in es)) (filter (λ c. is_lt (nat_cmp n c.1)) (stamps_in es))))
+              (map (λ c. c.0) (cond b ((x.id, x.stamp) ∷ later es) (later es)))
           either true = (others x.id (e.0 + 1) b es h.1 own.1 (subst (λ k. k < e.0 + 1) placed.0 (omega arith)), rest)
           either false = rest
 

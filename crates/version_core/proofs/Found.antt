@@ -71,7 +71,8 @@ reach_or_not t = by (nat_le (unsigned_abs t.i) 16384) refl (nat_le (unsigned_abs
 content_beyond : (pr : Sizes) (es : List (ℕ × Entry)) (count spans passes : ℕ) → IsVersion pr es count spans passes
     → (t : TileId) → (IsTileInReach t → ⊥) → None ≡ content_of pr t (live_in es)
 content_beyond pr es count spans passes is t out =
-    ap (tile_with pr t) (sym (none_kept (meets_tile pr t) (live_in es) (none (live_in es) (recursion_from_All (IsSegment pr.bound) (live_in es) is.live.within))))
+    ap (tile_with pr t)
+    (sym (none_kept (meets_tile pr t) (live_in es) (none (live_in es) (recursion_from_All (IsSegment pr.bound) (live_in es) is.live.within))))
   where
     none : (ss : List Segment) → AllByRecursion (IsSegment pr.bound) ss → AllByRecursion (λ s. meets_tile pr t s ≡ false) ss
     none [] h = tt

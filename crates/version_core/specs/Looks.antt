@@ -5,8 +5,8 @@ use Rattle.grid_core.specs.Name.{Label}
 use Rattle.version_core.specs.declared.looked.Look.{Look}
 use Rattle.version_core.specs.declared.looked.Look.TheVariants.{Tile, Name}
 
--- what was read, as contracts see it: the looks in their order; how often they were cleared or split;
--- and the brand of the versions that were read
+-- what was read, as contracts see it: the looks in their order; how often they were cleared or
+-- split; and the brand of the versions that were read
 pub record Looks : Type 0 where
   pub looks : List Look
   pub epoch : ℕ

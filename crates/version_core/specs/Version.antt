@@ -1,6 +1,8 @@
--- Versions: a number, the live segments, and for each tile the number of the last change that touched
--- it. A version keeps the tiles one by one, and each has its part of the rounding of the live list.
-use Rattle.std.specs.Prelude.{◌≡◌, ℕ, ◌+◌, ◌<◌, ◌≤◌, ◌^◌, List, [], map, filter, length, slice_get, unwrap_or, true, false}
+-- Versions: a number, the live segments, and for each tile the number of the last change that
+-- touched it. A version keeps the tiles one by one, and each has its part of the rounding of the
+-- live list.
+use Rattle.std.specs.Prelude.{◌≡◌, ℕ, ◌+◌, ◌<◌, ◌≤◌, ◌^◌, List, [], map, filter, length}
+use Rattle.std.specs.Prelude.{slice_get, unwrap_or, true, false}
 use Rattle.std.specs.List.{AllByRecursion}
 use Rattle.std.specs.Ordering.{nat_cmp, is_lt}
 use Rattle.grid_core.specs.declared.tile.TileId.{TileId}

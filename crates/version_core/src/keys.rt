@@ -2,7 +2,8 @@
 
 ghost use Rattle.std.specs.Prelude.{◌≡◌, ◌≤◌, ◌<◌, ◌^◌, unsigned_abs};
 ghost use Rattle.grid_core.specs.Name.{IsLabel};
-ghost use Rattle.version_core.specs.Keys.{tile_key, name_key, interleaved, raised_index, first_name_key};
+ghost use Rattle.version_core.specs.Keys.{tile_key, name_key, first_name_key};
+ghost use Rattle.version_core.specs.Keys.{interleaved, raised_index};
 
 use grid_core::{Name, TileId};
 

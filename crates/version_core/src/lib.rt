@@ -17,6 +17,7 @@ mod entry;
 mod keys;
 mod laws;
 mod looked;
+mod lookup;
 mod read;
 mod renew;
 mod renewal;

@@ -20,8 +20,8 @@ pub enum Look {
     All,
 }
 
-/// What was read of the versions of one brand, in order. It can't be copied, and none can be made but
-/// with a version or by `split`: so nothing can be read of a version unseen.
+/// What was read of the versions of one brand, in order. It can't be copied, and none can be made
+/// but with a version or by `split`: so nothing can be read of a version unseen.
 #[derive(Debug, Drop)]
 pub struct Looked {
     looks: Vec<Look>,
@@ -68,8 +68,9 @@ impl Looked {
         true
     }
 
-    /// A second one, for another reader, that has read nothing yet; the epoch of this one is raised by
-    /// one. Where the epoch is the greatest u64 it answers `None` and changes nothing. Takes no memory.
+    /// A second one, for another reader, that has read nothing yet; the epoch of this one is raised
+    /// by one. Where the epoch is the greatest u64 it answers `None` and changes nothing.
+    /// Takes no memory.
     pub fn split(&mut self) -> Option<Looked>
         ensures second { IfSome result
             (λ l. l ≡ record { looks = []; epoch = 0; brand = self.old.brand }) }

@@ -2,34 +2,25 @@
 //! `Looked`: only the numbers, the stamps and the tiles that changed are told without one.
 
 ghost use Rattle.std.specs.Prelude.{◌≡◌, ◌↔◌, ◌∷◌, ◌++◌, [], map, IfOk, OnOk, OnErr, IsErrOf};
-ghost use Rattle.std.specs.Prelude.{Contains, IsTrue, IsNone, None, Option, List, IfSome, IsPermutation, option_copied};
+ghost use Rattle.std.specs.Prelude.{Contains, IsNone, IfSome, IsPermutation, option_copied};
 ghost use Rattle.std.specs.List.{AllByRecursion};
 ghost use Rattle.grid_core.specs.LiveList.{names};
-ghost use Rattle.grid_core.specs.Name.{IsLabel};
 ghost use Rattle.grid_core.specs.Profile.{IsProfile};
 ghost use Rattle.grid_core.specs.Rounding.{route};
 ghost use Rattle.grid_core.specs.Tiles.{part_of};
 ghost use Rattle.tile_law.specs.Laws.{IsTileInReach};
 ghost use Rattle.tile_law.specs.Parts.{route_in};
 ghost use Rattle.hot_tile.specs.Tile.{segment_in};
-ghost use Rattle.radix_map.specs.Entries.{value_at, entries_from};
 ghost use Rattle.version_core.specs.declared.looked.Look.TheVariants.{All};
 ghost use Rattle.version_core.specs.Looks.{with_looks, tile_look, name_look};
-ghost use Rattle.version_core.specs.Entries.{touched_found, live_found, content_found, live_in, stamps_in};
-ghost use Rattle.version_core.specs.Parts.{with_key, part_under, copied_part};
-ghost use Rattle.version_core.specs.declared.entry.Entry.{Entry};
-ghost use Rattle.version_core.specs.Keys.{tile_key, name_key, first_name_key};
 ghost use Rattle.version_core.specs.Stands.{content_of};
-ghost use Rattle.version_core.specs.Version.{stamp_of, stamped_after, tiles_stamped_after};
+ghost use Rattle.version_core.specs.Version.{stamp_of, tiles_stamped_after};
 
-use crate::entry::{Entry, TouchedTile};
-use crate::keys::{FIRST_NAME_KEY, name_key, tile_key};
 use crate::looked::{Look, Looked};
+use crate::lookup::{by_key, live_list, live_of, parts_at, stamped_after, touched_of};
 use crate::version::Version;
 use grid_core::{Memory, Name, Point, TileId, Ur};
 use hot_tile::Tile;
-use radix_map::{FindAll, Map};
-use std::alloc::Global;
 
 /// Why there is no route.
 #[derive(Clone, Copy, Debug, PartialEq, Eq)]
@@ -124,7 +115,8 @@ impl Version {
         requires brand { self.now.brand ≡ looked.old.brand }
         ensures value { IfOk result (λ points. IfSome (segment_in self.now.live name)
             (λ s. points.items ≡ route self.now.live s)) }
-        ensures unknown { IsErrOf result RouteFault.Unknown → (¬ Contains (names self.now.live) name) }
+        ensures unknown { IsErrOf result RouteFault.Unknown
+            → (¬ Contains (names self.now.live) name) }
         ensures known { OnOk result (Contains (names self.now.live) name) }
         ensures looked { OnOk result (looked.new ≡ with_looks looked.old (name_look name ∷ [])) }
         ensures looked_in_vain { IsErrOf result RouteFault.Unknown
@@ -190,121 +182,4 @@ impl Version {
     {
         live_of(&self.entries, name)
     }
-}
-
-/// The live segment under the name's key.
-fn live_of(entries: &Map<Entry>, name: Name) -> Option<&Ur>
-    ensures value { option_copied result ≡ live_found (value_at (name_key name) entries.now) }
-    ensures kept { IsLabel name }
-{
-    match entries.get(name_key(name))? {
-        Entry::Live(s) => Some(s),
-        Entry::Touched(_) => None,
-    }
-}
-
-/// Tiles with their keys, by rising key.
-fn by_key(alloc: Global, ids: &[TileId]) -> Result<Vec<(u32, TileId)>, Memory>
-    requires { AllByRecursion IsTileInReach ids.now }
-    ensures { IfOk result (λ placed. IsPermutation (map with_key ids.now) placed.items) }
-{
-    let mut placed = Vec::with_capacity(alloc, ids.len())?;
-    for id in ids {
-        placed.push((tile_key(*id), *id))?;
-    }
-    placed.sort_unstable_by_key(|p: &(u32, TileId)| p.0);
-    Ok(placed)
-}
-
-/// What stands under the keys of these tiles.
-fn parts_at<'a>(
-    alloc: Global,
-    entries: &'a Map<Entry>,
-    placed: &[(u32, TileId)],
-) -> Result<Vec<(TileId, Option<&'a Tile>)>, Memory>
-    ensures { IfOk result (λ found. map copied_part found.items
-        ≡ map (part_under entries.now) placed.now) }
-{
-    let keys = keys_of(alloc, placed)?;
-    let mut values = entries.find_all(&keys);
-    let mut found = Vec::with_capacity(alloc, placed.len())?;
-    for p in placed {
-        let part = next_part(&mut values);
-        found.push((p.1, part))?;
-    }
-    Ok(found)
-}
-
-/// The keys of these tiles.
-fn keys_of(alloc: Global, placed: &[(u32, TileId)]) -> Result<Vec<u32>, Memory>
-    ensures { IfOk result (λ keys. keys.items ≡ map (λ p. p.0) placed.now) }
-{
-    let mut keys = Vec::with_capacity(alloc, placed.len())?;
-    for p in placed {
-        keys.push(p.0)?;
-    }
-    Ok(keys)
-}
-
-/// What the tile has whose entry is found next.
-fn next_part<'a>(values: &mut FindAll<'a, '_, Entry>) -> Option<&'a Tile>
-    ensures { (found : Option Entry) (rest : List (Option Entry)) → values.old ≡ found ∷ rest
-        → (option_copied result ≡ content_found found) × (values.new ≡ rest) }
-{
-    match values.next()?? {
-        Entry::Touched(touched) => touched.tile.as_ref(),
-        Entry::Live(_) => None,
-    }
-}
-
-/// The live list of these entries, `count` segments or so.
-fn live_list(alloc: Global, count: usize, entries: &Map<Entry>) -> Result<Vec<Ur>, Memory>
-    ensures { IfOk result
-        (λ live. live.items ≡ live_in (entries_from first_name_key entries.now)) }
-{
-    let mut live = Vec::with_capacity(alloc, count)?;
-    for (_, entry) in entries.entries_from(FIRST_NAME_KEY) {
-        if let Entry::Live(s) = entry {
-            live.push(*s)?;
-        }
-    }
-    Ok(live)
-}
-
-/// The tiles of these entries whose stamp is above a number, by key.
-fn stamped_after(alloc: Global, number: u32, entries: &Map<Entry>) -> Result<Vec<TileId>, Memory>
-    ensures { IfOk result (λ ids. ids.items ≡ stamped_after (stamps_in entries.now) number) }
-{
-    let mut ids = Vec::new(alloc);
-    for (_, entry) in entries.entries() {
-        if let Entry::Touched(touched) = entry
-            && touched.stamp > number
-        {
-            ids.push(touched.id)?;
-        }
-    }
-    Ok(ids)
-}
-
-/// What stands under the tile's key. `None` where no change touched it, and so for each tile out of
-/// reach.
-fn touched_of(entries: &Map<Entry>, id: TileId) -> Option<&TouchedTile>
-    ensures within { IsTileInReach id
-        → option_copied result ≡ touched_found (value_at (tile_key id) entries.now) }
-    ensures beyond { (¬ IsTileInReach id) → option_copied result ≡ None }
-{
-    if !is_in_reach(id) {
-        return None;
-    }
-    match entries.get(tile_key(id))? {
-        Entry::Touched(touched) => Some(touched),
-        Entry::Live(_) => None,
-    }
-}
-
-/// Whether the column and the row of the tile are at most 16,384 in size.
-fn is_in_reach(id: TileId) -> bool
-    ensures { IsTrue result ↔ IsTileInReach id }
-{
-    id.i.unsigned_abs() <= 16384 && id.j.unsigned_abs() <= 16384
 }

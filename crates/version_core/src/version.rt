@@ -16,8 +16,8 @@ use std::alloc::Global;
 use std::marker::Model;
 use std::sync::Arc;
 
-/// A drawing after some number of changes: its live segments, and the rounding of them tile by tile.
-/// Versions that were made of one another share the tiles that no change between them touched.
+/// A drawing after some number of changes: its live segments, and the rounding of them tile by
+/// tile. Versions that were made of one another share the tiles that no change between them touched.
 #[derive(Drop)]
 pub struct Version {
     pub(crate) alloc: Global,
@@ -30,8 +30,8 @@ pub struct Version {
     pub(crate) count: usize,
     pub(crate) spans: u64,
     pub(crate) passes: u64,
-    /// The tiles that some change touched, under keys below those of names, and behind them the live
-    /// segments in order of name. They stand in one map, so that one edit of it makes a change whole.
+    /// The tiles that some change touched, under keys below those of names, and behind them the
+    /// live segments in order of name. They stand in one map, so that one edit of it is a change.
     pub(crate) entries: Map<Entry>,
 }
 

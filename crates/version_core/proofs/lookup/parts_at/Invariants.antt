@@ -1,7 +1,7 @@
 use Rattle.std.proofs.Common.{◌≡◌, map, take, drop}
 use Rattle.radix_map.specs.Entries.{value_at}
 use Rattle.version_core.specs.Parts.{part_under, copied_part}
-use Rattle.version_core.proofs.read.parts_at.Given as goal
+use Rattle.version_core.proofs.lookup.parts_at.Given as goal
 
 abbrev pub invariant-loop-p : goal.invariant-loop-p
 invariant-loop-p l =

@@ -1,7 +1,7 @@
 use Rattle.std.proofs.Common.{◌≡◌, ◌++◌}
 use Rattle.version_core.specs.Entries.{stamps_in}
 use Rattle.version_core.specs.Version.{stamped_after}
-use Rattle.version_core.proofs.read.stamped_after.Given as goal
+use Rattle.version_core.proofs.lookup.stamped_after.Given as goal
 
 abbrev pub invariant-loop-entry : goal.invariant-loop-entry
 invariant-loop-entry l =

@@ -2,9 +2,9 @@ use Rattle.std.proofs.Common.{◌∙◌, ap, map}
 use Rattle.radix_map.specs.Entries.{value_at}
 use Rattle.version_core.specs.Parts.{copied_part}
 use Rattle.version_core.proofs.PartsFound.{values_begun, value_next, part_pushed}
-use Rattle.version_core.proofs.read.parts_at.Goals as goal
+use Rattle.version_core.proofs.lookup.parts_at.Goals as goal
 
--- src/read.rt
+-- src/lookup.rt
 pub loop-p-init : goal.loop-p-init
 loop-p-init c = (
   c.find_all-values.ensures
