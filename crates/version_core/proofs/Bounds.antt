@@ -1,7 +1,7 @@
 -- How great the sums over a live list can be, so that they fit the numbers that keep them: passes by
 -- the number of hot pixels, which come from ends and crossings, and spans by the number of tiles.
-use Rattle.std.proofs.Common.{◌≡◌, refl, ◌∙◌, ℕ, suc, ◌+◌, ◌*◌, ◌^◌, ◌≤◌, arith, List, [], ◌∷◌, ◌++◌}
-use Rattle.std.proofs.Common.{map, filter, length, length-append, fold, Ordering, Less, Equal, Greater, Option, Some, None}
+use Rattle.std.proofs.Common.{◌≡◌, refl, ◌∙◌, suc, ◌+◌, ◌*◌, ◌^◌, ◌≤◌, arith, List, [], ◌∷◌, ◌++◌}
+use Rattle.std.proofs.Common.{filter, length, length-append, fold, Ordering, Less, Equal, Greater, Option, Some, None}
 use Rattle.std.specs.Prelude.{ℤ, pos, neg_ℤ, ◌+ℤ◌, ◌≤ℤ◌, sum_by, filter_map, flat_map, All}
 use Rattle.std.specs.List.{cons_option}
 use Rattle.std.specs.BTreeSet.{insert_key}
@@ -13,7 +13,6 @@ use Rattle.std.proofs.lemmas.List.{length-map}
 use Rattle.std.proofs.lemmas.List.FromFn.{length-range_with_len}
 use Rattle.std.proofs.lemmas.List.Sums.{sum_by-cons, sum_by-le}
 use Rattle.std.proofs.lemmas.Int.{ints, clamps}
-use Rattle.grid_core.specs.declared.point.Point.{Point}
 use Rattle.grid_core.specs.declared.tile.TileId.{TileId}
 use Rattle.grid_core.specs.Profile.{Sizes, IsProfile}
 use Rattle.grid_core.specs.Segment.{Segment, IsSegment}

@@ -3,7 +3,7 @@
 -- change doesn't touch is far from each of its edits, so it has what it had; and a tile out of reach
 -- is in no map, and is touched by no change.
 use Rattle.std.proofs.Common.{◌≡◌, refl, ap, sym, subst, ◌∙◌, ℕ, ◌+◌, ◌*◌, ◌^◌, ◌<◌, ◌≤◌, ◌⊎◌, inl, inr, arith}
-use Rattle.std.proofs.Common.{Bool, true, false, true≢false, List, [], ◌∷◌, map, fold, length, Contains}
+use Rattle.std.proofs.Common.{Bool, true, false, true≢false, List, [], ◌∷◌, map, length, Contains}
 use Rattle.std.specs.Prelude.{flat_map, unsigned_abs, Option, Some}
 use Rattle.std.specs.declared.cmp.Ordering.{Ordering}
 use Rattle.std.specs.declared.cmp.Ordering.TheVariants.{Less, Equal, Greater}

@@ -12,7 +12,6 @@ use Rattle.hot_tile.specs.Tile.{TileContent}
 use Rattle.version_core.specs.declared.entry.Entry.{Entry}
 use Rattle.version_core.specs.declared.entry.Entry.TheVariants.{Live, Touched}
 use Rattle.version_core.specs.declared.change.Edit.{Edit}
-use Rattle.version_core.specs.declared.change.Edit.TheVariants.{Insert, Delete}
 use Rattle.version_core.specs.Edits.{Changes, after_edits, tiles_of_edits}
 use Rattle.version_core.specs.Entries.{IsKeyed, put_name}
 use Rattle.version_core.specs.Stands.{content_of, spans_of}

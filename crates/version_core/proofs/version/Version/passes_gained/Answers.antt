@@ -1,5 +1,5 @@
 use mir.Syntax.{w128}
-use Rattle.std.proofs.Common.{rules, ap, sym, subst, ◌∙◌, ◌<◌, map, length, SFits, to_z, of_z, to_z-of_z}
+use Rattle.std.proofs.Common.{rules, ap, sym, subst, ◌∙◌, ◌<◌, map, SFits, to_z, of_z, to_z-of_z}
 use Rattle.std.specs.Prelude.{◌+ℤ◌, ◌-ℤ◌, pos}
 use Rattle.std.proofs.lemmas.List.{get_or-map, length-map}
 use Rattle.version_core.specs.Replaced.{plain_tile}
