@@ -47,7 +47,7 @@ module _ {K : Type 0} (R : K → K → Ordering) where
   folded_length done (k ∷ ks) =
       omega (arith, folded_length (insert_key R done k) ks, inserted_length done k)
 
-  rising_length : (ks : List K) → length (rising R ks) ≤ length ks
+  pub rising_length : (ks : List K) → length (rising R ks) ≤ length ks
   rising_length ks = let h = folded_length [] ks in omega (arith, h)
 
 found_length : {A B : Type 0} (f : A → Option B) (xs : List A) → length (filter_map f xs) ≤ length xs
@@ -128,7 +128,7 @@ short_gap : (a b : ℤ) → neg_ℤ (pos 16384) ≤ℤ a → b ≤ℤ pos 16384 
 short_gap a b low high = omega (arith, signed, int_gap_is a (b +ℤ pos 1), low, high)
 
 -- the tiles of a segment lie in a square of tiles
-tiles_length : (pr : Sizes) → IsProfile pr → (s : Segment) → IsSegment pr.bound s → length (tiles pr s) ≤ 2 ^ 32
+pub tiles_length : (pr : Sizes) → IsProfile pr → (s : Segment) → IsSegment pr.bound s → length (tiles pr s) ≤ 2 ^ 32
 tiles_length pr profile s fits =
     let px = column_reach pr profile s.p.x fits.p_within.x in
     let qx = column_reach pr profile s.q.x fits.q_within.x in

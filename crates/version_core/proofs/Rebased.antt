@@ -38,7 +38,7 @@ carried pr t ss us s same met here =
     ((contains_filter (meets_tile pr t) us s).0 (subst (λ ns. Contains ns s) same near_s)).0
 
 -- the names of segments that are kept are old ones
-names_kept : (p : Segment → Bool) (us : List Segment) (n : Label) → Contains (names (filter p us)) n → Contains (names us) n
+pub names_kept : (p : Segment → Bool) (us : List Segment) (n : Label) → Contains (names (filter p us)) n → Contains (names us) n
 names_kept p us n h =
     (contains_map (λ (u : Segment). u.name) us n).1
     (any_then (λ u. IsTrue (p u) × (u.name ≡ n)) (λ u. u.name ≡ n) us (λ u k. k.1)
