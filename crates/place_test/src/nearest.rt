@@ -1,0 +1,228 @@
+//! A scan over vertices and edges for what lies nearest to a query point.
+
+ghost use Rattle.std.specs.Prelude.{◌≡◌, ◌^◌, IfSome, if◌then◌else◌, ◌&&◌, int_lt, pos};
+ghost use Rattle.grid_core.specs.Vector.{IsWithin};
+ghost use Rattle.grid_core.specs.Edge.{edge_cmp};
+ghost use Rattle.grid_core.specs.Places.{lies_on, spans, side_of_edge, upwards_cmp, downwards_cmp};
+ghost use Rattle.place_test.specs.Reach.{IsEdgeWithin};
+ghost use Rattle.place_test.specs.Nearest.{first_of, vertex_or};
+
+use crate::height::{downwards, upwards};
+use crate::side::{is_at, is_left_of, is_right_of, lies_on, spans};
+use grid_core::{Edge, Place, Point};
+use std::cmp::Ordering;
+use std::marker::Model;
+
+/// What lies nearest to a query point among the vertices and edges that a scan has come to: the vertex
+/// at the point, the least edge that has it, and the nearest edges above and below it. These two have
+/// no coordinate greater than 2^30 in size.
+#[derive(Clone, Copy, Debug)]
+pub struct Nearest {
+    vertex: Option<Point>,
+    on: Option<Edge>,
+    above: Option<Edge>,
+    below: Option<Edge>,
+}
+
+impl Model for Nearest {
+    ghost use Rattle.std.specs.Prelude.{◌^◌};
+    ghost use Rattle.place_test.specs.Nearest.{Around, AreNearWithin};
+
+    ghost Value = { Around };
+
+    ghost view = { λ n. record {
+      vertex = n.vertex;
+      on = n.on;
+      above = n.above;
+      below = n.below;
+    } };
+
+    ghost invariant = { λ n. AreNearWithin (2 ^ 30) (record {
+      vertex = n.vertex;
+      on = n.on;
+      above = n.above;
+      below = n.below;
+    }) };
+
+    ghost inverse = { λ n. record {
+      vertex = n.vertex;
+      on = n.on;
+      above = n.above;
+      below = n.below;
+    } };
+}
+
+impl Nearest {
+    ghost use Rattle.std.specs.Prelude.{◌≡◌, ◌^◌, List, [], ◌∷◌, ◌++◌};
+    ghost use Rattle.grid_core.specs.declared.point.Point.{Point};
+    ghost use Rattle.grid_core.specs.Vector.{IsWithin};
+    ghost use Rattle.grid_core.specs.Edge.{EdgeEnds};
+    ghost use Rattle.grid_core.specs.Places.{place_among};
+    ghost use Rattle.place_test.specs.Reach.{IsEdgeWithin};
+    ghost use Rattle.place_test.specs.Nearest.{around};
+
+    /// Before the scan.
+    pub fn of_nothing() -> Nearest
+        ensures { (q : Point) → result ≡ around [] [] q }
+    {
+        Nearest {
+            vertex: None,
+            on: None,
+            above: None,
+            below: None,
+        }
+    }
+
+    /// With one vertex more.
+    #[inline]
+    pub fn with_vertex(&self, at: Point, h: Point) -> Nearest
+        requires { IsWithin (2 ^ 30) h }
+        ensures { (vs : List Point) (es : List EdgeEnds) → self.now ≡ around vs es at
+            → result ≡ around (vs ++ h ∷ []) es at }
+    {
+        Nearest {
+            vertex: first_at(at, self.vertex, h),
+            on: self.on,
+            above: self.above,
+            below: self.below,
+        }
+    }
+
+    /// With one edge more.
+    #[inline]
+    pub fn with_edge(&self, at: Point, e: &Edge) -> Nearest
+        requires at_within { IsWithin (2 ^ 40) at }
+        requires edge_within { IsEdgeWithin (2 ^ 30) e.now }
+        ensures { (vs : List Point) (es : List EdgeEnds) → self.now ≡ around vs es at
+            → result ≡ around vs (es ++ e.now ∷ []) at }
+    {
+        Nearest {
+            vertex: self.vertex,
+            on: least_on(at, self.on, e),
+            above: first_above(at, self.above, e),
+            below: first_below(at, self.below, e),
+        }
+    }
+
+    /// Where the query point lies among what the scan has come to.
+    pub fn place(&self) -> Place
+        ensures { (vs : List Point) (es : List EdgeEnds) (q : Point) → self.now ≡ around vs es q
+            → result ≡ place_among vs es q }
+    {
+        match (self.vertex, self.on) {
+            (Some(h), _) => Place::Vertex(h),
+            (None, Some(e)) => Place::OnEdge(e),
+            (None, None) => Place::Between {
+                above: self.above,
+                below: self.below,
+            },
+        }
+    }
+}
+
+/// The vertex at the query point so far, or else this one if it is there.
+#[inline(always)]
+fn first_at(at: Point, so_far: Option<Point>, h: Point) -> Option<Point>
+    requires { IsWithin (2 ^ 30) h }
+    ensures { result ≡ vertex_or at so_far h }
+{
+    match so_far {
+        Some(v) => Some(v),
+        None => if is_at(at, h) { Some(h) } else { None },
+    }
+}
+
+/// The least edge that has the query point, of the one so far and this one.
+#[inline(always)]
+fn least_on(at: Point, so_far: Option<Edge>, e: &Edge) -> Option<Edge>
+    requires at_within { IsWithin (2 ^ 40) at }
+    requires edge_within { IsEdgeWithin (2 ^ 30) e.now }
+    ensures { result ≡ if lies_on at e.now then first_of edge_cmp so_far e.now else so_far }
+{
+    if lies_on(at, e) {
+        lesser(so_far, e)
+    } else {
+        so_far
+    }
+}
+
+/// The nearest edge above the query point, of the one so far and this one.
+#[inline(always)]
+fn first_above(at: Point, so_far: Option<Edge>, e: &Edge) -> Option<Edge>
+    requires at_within { IsWithin (2 ^ 40) at }
+    requires so_far_within { IfSome so_far (IsEdgeWithin (2 ^ 30)) }
+    requires edge_within { IsEdgeWithin (2 ^ 30) e.now }
+    ensures value { result ≡ if spans at e.now && int_lt (side_of_edge e.now at) (pos 0)
+        then first_of (upwards_cmp at) so_far e.now else so_far }
+    ensures within { IfSome result (IsEdgeWithin (2 ^ 30)) }
+{
+    if spans(at, e) && is_right_of(at, e) {
+        lower(at, so_far, e)
+    } else {
+        so_far
+    }
+}
+
+/// The nearest edge below the query point, of the one so far and this one.
+#[inline(always)]
+fn first_below(at: Point, so_far: Option<Edge>, e: &Edge) -> Option<Edge>
+    requires at_within { IsWithin (2 ^ 40) at }
+    requires so_far_within { IfSome so_far (IsEdgeWithin (2 ^ 30)) }
+    requires edge_within { IsEdgeWithin (2 ^ 30) e.now }
+    ensures value { result ≡ if spans at e.now && int_lt (pos 0) (side_of_edge e.now at)
+        then first_of (downwards_cmp at) so_far e.now else so_far }
+    ensures within { IfSome result (IsEdgeWithin (2 ^ 30)) }
+{
+    if spans(at, e) && is_left_of(at, e) {
+        higher(at, so_far, e)
+    } else {
+        so_far
+    }
+}
+
+/// The lesser of the edge so far and this one.
+#[inline(always)]
+fn lesser(so_far: Option<Edge>, e: &Edge) -> Option<Edge>
+    ensures { result ≡ first_of edge_cmp so_far e.now }
+{
+    match so_far {
+        None => Some(*e),
+        Some(f) => if *e < f { Some(*e) } else { Some(f) },
+    }
+}
+
+/// The first upwards of the edge so far and this one.
+#[inline(always)]
+fn lower(at: Point, so_far: Option<Edge>, e: &Edge) -> Option<Edge>
+    requires at_within { IsWithin (2 ^ 40) at }
+    requires so_far_within { IfSome so_far (IsEdgeWithin (2 ^ 30)) }
+    requires edge_within { IsEdgeWithin (2 ^ 30) e.now }
+    ensures value { result ≡ first_of (upwards_cmp at) so_far e.now }
+    ensures within { IfSome result (IsEdgeWithin (2 ^ 30)) }
+{
+    match so_far {
+        None => Some(*e),
+        Some(f) => match upwards(at, e, &f) {
+            Ordering::Less => Some(*e),
+            _ => Some(f),
+        },
+    }
+}
+
+/// The first downwards of the edge so far and this one.
+#[inline(always)]
+fn higher(at: Point, so_far: Option<Edge>, e: &Edge) -> Option<Edge>
+    requires at_within { IsWithin (2 ^ 40) at }
+    requires so_far_within { IfSome so_far (IsEdgeWithin (2 ^ 30)) }
+    requires edge_within { IsEdgeWithin (2 ^ 30) e.now }
+    ensures value { result ≡ first_of (downwards_cmp at) so_far e.now }
+    ensures within { IfSome result (IsEdgeWithin (2 ^ 30)) }
+{
+    match so_far {
+        None => Some(*e),
+        Some(f) => match downwards(at, e, &f) {
+            Ordering::Less => Some(*e),
+            _ => Some(f),
+        },
+    }
+}
