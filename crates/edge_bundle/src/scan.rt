@@ -1,6 +1,6 @@
 //! The scan over the vertices and edges of a rounding.
 
-ghost use Rattle.std.specs.Prelude.{◌≡◌, ◌^◌, All};
+ghost use Rattle.std.specs.Prelude.{◌≡◌, ◌^◌};
 ghost use Rattle.grid_core.specs.Vector.{IsWithin};
 ghost use Rattle.grid_core.specs.Places.{place_among};
 ghost use Rattle.edge_bundle.specs.Drawn.{vertices_of, edges_of, IsDrawnWithin};

@@ -59,7 +59,7 @@ impl Nearest {
     ghost use Rattle.grid_core.specs.Edge.{EdgeEnds};
     ghost use Rattle.grid_core.specs.Places.{place_among};
     ghost use Rattle.place_test.specs.Reach.{IsEdgeWithin};
-    ghost use Rattle.place_test.specs.Nearest.{around};
+    ghost use Rattle.place_test.specs.Nearest.{around, AreNearWithin};
 
     /// Before the scan.
     pub fn of_nothing() -> Nearest
@@ -102,6 +102,24 @@ impl Nearest {
             above: first_above(at, self.above, e),
             below: first_below(at, self.below, e),
         }
+    }
+
+    /// The nearest edge above the query point.
+    #[inline]
+    pub fn above(&self) -> Option<Edge>
+        ensures value { result ≡ self.now.above }
+        ensures kept { AreNearWithin (2 ^ 30) self.now }
+    {
+        self.above
+    }
+
+    /// The nearest edge below the query point.
+    #[inline]
+    pub fn below(&self) -> Option<Edge>
+        ensures value { result ≡ self.now.below }
+        ensures kept { AreNearWithin (2 ^ 30) self.now }
+    {
+        self.below
     }
 
     /// Where the query point lies among what the scan has come to.
