@@ -1,0 +1,3 @@
+pub mod StripOfPoint
+pub mod CellColumns
+pub mod Filling

@@ -1,0 +1,113 @@
+//! What lies in one strip, and the scan of it for a query point.
+
+ghost use Rattle.std.specs.Prelude.{◌≡◌, ◌^◌, All, OnOk};
+ghost use Rattle.grid_core.specs.Vector.{IsWithin};
+ghost use Rattle.place_test.specs.Reach.{IsEdgeWithin};
+ghost use Rattle.place_test.specs.Nearest.{around};
+ghost use Rattle.cell_map.specs.Found.{found_among};
+
+use crate::Found;
+use crate::cell::cell;
+use grid_core::{Edge, Memory, Place, Point};
+use place_test::Nearest;
+use std::alloc::Global;
+use std::marker::Model;
+
+/// The edges that meet a strip, whole, and the vertices in it. No coordinate is greater than 2^30 in
+/// size.
+#[derive(Drop)]
+pub(crate) struct Strip {
+    edges: Vec<Edge>,
+    vertices: Vec<Point>,
+}
+
+impl Model for Strip {
+    ghost use Rattle.std.specs.Prelude.{◌^◌};
+    ghost use Rattle.planar_law.specs.PlanarEdges.{Graph};
+    ghost use Rattle.cell_map.specs.Strips.{IsStripWithin};
+
+    ghost Value = { Graph };
+
+    ghost view = { λ s. record { edges = s.edges.items; vertices = s.vertices.items } };
+
+    ghost invariant = { λ s. IsStripWithin (2 ^ 30)
+        (record { edges = s.edges.items; vertices = s.vertices.items }) };
+}
+
+impl Strip {
+    ghost use Rattle.std.specs.Prelude.{◌≡◌, ◌^◌, OnOk};
+    ghost use Rattle.grid_core.specs.Vector.{IsWithin};
+    ghost use Rattle.place_test.specs.Reach.{IsEdgeWithin};
+    ghost use Rattle.cell_map.specs.Strips.{empty_strip, with_edge, with_vertex};
+    ghost use Rattle.cell_map.specs.Found.{found_among};
+
+    /// A strip in which nothing lies. Takes no memory.
+    pub(crate) fn empty(alloc: Global) -> Strip
+        ensures { result ≡ empty_strip }
+    {
+        Strip {
+            edges: Vec::new(alloc),
+            vertices: Vec::new(alloc),
+        }
+    }
+
+    /// Puts an edge behind the others.
+    pub(crate) fn push_edge(&mut self, e: &Edge) -> Result<(), Memory>
+        requires { IsEdgeWithin (2 ^ 30) e.now }
+        ensures { OnOk result (self.new ≡ with_edge e.now self.old) }
+    {
+        self.edges.push(*e)?;
+        Ok(())
+    }
+
+    /// Puts a vertex behind the others.
+    pub(crate) fn push_vertex(&mut self, h: Point) -> Result<(), Memory>
+        requires { IsWithin (2 ^ 30) h }
+        ensures { OnOk result (self.new ≡ with_vertex h self.old) }
+    {
+        self.vertices.push(h)?;
+        Ok(())
+    }
+
+    /// Where a query point lies among what lies in the strip, with its cell.
+    pub(crate) fn find(&self, at: Point) -> Found
+        requires { IsWithin (2 ^ 40) at }
+        ensures { result ≡ found_among self.now.vertices self.now.edges at }
+    {
+        find_among(self.vertices.as_slice(), self.edges.as_slice(), at)
+    }
+}
+
+/// Where a query point lies among vertices and edges, with its cell in a strip of 256 columns.
+pub(crate) fn find_among(vertices: &[Point], edges: &[Edge], at: Point) -> Found
+    requires at_within { IsWithin (2 ^ 40) at }
+    requires vertices_within { All (IsWithin (2 ^ 30)) vertices.now }
+    requires edges_within { All (IsEdgeWithin (2 ^ 30)) edges.now }
+    ensures { result ≡ found_among vertices.now edges.now at }
+{
+    let nearest = scan(vertices, edges, at);
+    match nearest.place() {
+        Place::Vertex(h) => Found::Vertex(h),
+        Place::OnEdge(e) => Found::OnEdge(e),
+        Place::Between { .. } => {
+            Found::Inside(cell(vertices, at, nearest.above(), nearest.below()))
+        }
+    }
+}
+
+/// What lies nearest to a query point among vertices and edges.
+fn scan(vertices: &[Point], edges: &[Edge], at: Point) -> Nearest
+    requires at_within { IsWithin (2 ^ 40) at }
+    requires vertices_within { All (IsWithin (2 ^ 30)) vertices.now }
+    requires edges_within { All (IsEdgeWithin (2 ^ 30)) edges.now }
+    ensures { result ≡ around vertices.now edges.now at }
+{
+    let mut nearest = Nearest::of_nothing();
+    for h in vertices {
+        nearest = nearest.with_vertex(at, *h);
+    }
+    for e in edges {
+        nearest = nearest.with_edge(at, e);
+    }
+    nearest
+}
