@@ -46,9 +46,6 @@ changed f k old new s t has is h j =
 abbrev pub reached : ℤ → ℤ → ℤ → Bool
 reached first k j = int_le first j && int_lt j k
 
-pub none_reached : (first j : ℤ) → reached first first j ≡ false
-none_reached first j = grind (arith, ints)
-
 pub reached_here : (first k j : ℤ) → first ≤ℤ k → k ≡ j
     → (reached first k j ≡ false) × (reached first (k +ℤ pos 1) j ≡ true)
 reached_here first k j h e = grind (arith, ints)
