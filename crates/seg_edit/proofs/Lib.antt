@@ -1,0 +1,5 @@
+pub mod Preparing
+pub mod Standing
+pub mod Moving
+pub mod Ready
+pub mod Reading
