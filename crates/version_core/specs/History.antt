@@ -46,7 +46,8 @@ shared_tiles pr x y = filter (λ t. touches pr t y) (tiles_of_edits pr x.edits)
 abbrev pub clash_with : Sizes → Changes → ℕ × Changes → Option (ℕ × TileId)
 clash_with pr x y = option_map (λ t. (y.0, t)) (slice_get (shared_tiles pr x y.1) 0)
 
--- the last change after the first b that shares a tile with x, and the least tile that it shares
+-- of the changes after the first b, the number of the last that shares a tile with x, and the least
+-- tile that it shares
 abbrev pub clash : Sizes → List Changes → ℕ → Changes → Option (ℕ × TileId)
 clash pr h b x = last_or None (filter_map (clash_with pr x) (enumerate_from (b + 1) (drop b h)))
 

@@ -10,7 +10,8 @@ abbrev pub interleaved : ℕ → ℕ → ℕ → ℕ
 interleaved zero a b = 0
 interleaved (suc digits) a b = 16 * interleaved digits (a / 4) (b / 4) + (4 * (a % 4) + b % 4)
 
--- the number of a tile's column, or of its row, raised by 16,384: it is above 0
+-- the number of a tile's column, or of its row, raised by 16,384: from 0 to 32,768 for a tile in
+-- reach
 abbrev pub raised_index : ℤ → ℕ
 raised_index i = unsigned_abs (i +ℤ pos 16384)
 
@@ -18,7 +19,7 @@ raised_index i = unsigned_abs (i +ℤ pos 16384)
 abbrev pub tile_key : TileId → ℕ
 tile_key t = interleaved 8 (raised_index t.i) (raised_index t.j)
 
--- the first key of a name; no tile has it or a greater one
+-- the first key of a name; no tile in reach has it or a greater one
 abbrev pub first_name_key : ℕ
 first_name_key = 3 * 2 ^ 30
 

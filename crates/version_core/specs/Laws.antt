@@ -1,6 +1,6 @@
 -- The law of rebasing: a prepared change stands also on later live lists, where no later change
 -- shares a tile with it.
-use Rattle.std.specs.Prelude.{◌≡◌, ℕ, ◌≤◌, List, length, take, Contains, None}
+use Rattle.std.specs.Prelude.{◌≡◌, ℕ, List, take, Contains, None}
 use Rattle.std.specs.List.{AllByRecursion}
 use Rattle.grid_core.specs.Name.{Label}
 use Rattle.grid_core.specs.Profile.{Sizes}
@@ -22,7 +22,6 @@ AreOf n h = AllByRecursion (λ x. AreSegments n x.edits) h
 -- of the drawing, the history fits, no later change shares a tile with it, and none of the names that
 -- it inserts is in the history
 pub record IsUnclashed (x : PreparedChange) (h : List Changes) : Type 0 where
-  pub based : x.base ≤ length h
   pub own : AreSegments x.profile.bound x.change.edits
   pub others : AreOf x.profile.bound h
   pub fits : Fit h

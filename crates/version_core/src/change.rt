@@ -63,7 +63,7 @@ impl Change {
         Ok(Change { editor, edits })
     }
 
-    /// The editor, 1 to 64.
+    /// The editor.
     pub fn editor(&self) -> u8
         ensures { result ≡ self.now.editor }
     {

@@ -7,7 +7,7 @@ ghost use Rattle.version_core.specs.Keys.{interleaved, raised_index};
 
 use grid_core::{Name, TileId};
 
-/// The first key of a name: no tile has it or a greater one.
+/// The first key of a name: no tile in reach has it or a greater one.
 pub(crate) const FIRST_NAME_KEY: u32 = 0xC000_0000;
 
 /// The key of a tile whose numbers are at most 16,384 in size. It is below `FIRST_NAME_KEY`.

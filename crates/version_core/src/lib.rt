@@ -1,5 +1,6 @@
-//! Changes of a drawing, their histories, and the law by which a change that was prepared on an older
-//! live list may be committed to a newer one.
+//! Versions of a drawing, kept tile by tile; the changes that lead from one to the next, their
+//! histories, and the law by which a change that was prepared on an older live list may be committed
+//! to a newer one.
 //!
 //! ```text
 //!    history   1: insert 3.1 (0,0)-(2000,0)      tiles (0,0) .. (7,0)

@@ -22,7 +22,7 @@ pub enum Look {
 
 /// What was read of the versions of one brand, in order. It can't be copied, and none can be made
 /// but with a version or by `split`: so nothing can be read of a version unseen.
-#[derive(Debug, Drop)]
+#[derive(Drop)]
 pub struct Looked {
     looks: Vec<Look>,
     epoch: u64,

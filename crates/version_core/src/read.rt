@@ -1,7 +1,7 @@
 //! What a version tells of its tiles and its segments. All that is read of it is taken down in a
 //! `Looked`: only the numbers, the stamps and the tiles that changed are told without one.
 
-ghost use Rattle.std.specs.Prelude.{◌≡◌, ◌↔◌, ◌∷◌, ◌++◌, [], map, IfOk, OnOk, OnErr, IsErrOf};
+ghost use Rattle.std.specs.Prelude.{◌≡◌, ◌<◌, ◌↔◌, ◌∷◌, ◌++◌, [], map, IfOk, OnOk, OnErr, IsErrOf};
 ghost use Rattle.std.specs.Prelude.{Contains, IsNone, IfSome, IsPermutation, option_copied};
 ghost use Rattle.std.specs.List.{AllByRecursion};
 ghost use Rattle.grid_core.specs.LiveList.{names};
@@ -64,8 +64,8 @@ impl Version {
         Ok(self.part(id))
     }
 
-    /// What these tiles have, all found in one walk, and so in the order in which the version keeps
-    /// them. The column and the row of each are at most 16,384 in size.
+    /// What these tiles have, each as often as it is asked for, in any order; they are found in one
+    /// walk. The column and the row of each are at most 16,384 in size.
     pub fn tiles<'a>(
         &'a self,
         ids: &[TileId],
@@ -135,8 +135,10 @@ impl Version {
     /// The tiles that a change after the older version touched, by column and then row: those whose
     /// stamp here is above the older version's number.
     pub fn changed_since(&self, older: &Version) -> Result<Vec<TileId>, Memory>
-        ensures { IfOk result
+        ensures value { IfOk result
             (λ ids. ids.items ≡ tiles_stamped_after self.now.stamps older.now.number) }
+        ensures stamped { IfOk result (λ ids. (t : TileId)
+            → Contains ids.items t ↔ (older.now.number < stamp_of self.now.stamps t)) }
     {
         let mut changed = stamped_after(self.alloc, older.number, &self.entries)?;
         changed.sort_unstable();
