@@ -1,6 +1,6 @@
 -- Where a query point lies follows from what lies in its strip. A vertex at the point, and an edge
 -- that has the point or its column, has a column on either side of the point's, so that it meets the
--- point's strip. A vertex outside the strip is further away than the wall on its side, so that it
+-- point's strip. A vertex outside the strip is no nearer than the wall on its side, so that it
 -- ends no cell before the wall does.
 use Rattle.std.proofs.Common.{◌≡◌, refl, ap, ap₂, ⊎_elim, sym, ◌∙◌, arith, Bool, true, false, cond, ◌&&◌, true≢false, List, [], ◌∷◌}
 use Rattle.std.proofs.Common.{filter, map, fold}

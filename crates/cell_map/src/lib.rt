@@ -17,7 +17,7 @@
 //! ```
 //!
 //! Where a point lies follows from its strip alone: an edge that has the point, or its column, meets the
-//! strip, and a vertex outside is further away than the wall on its side. Cells are not kept: a query
+//! strip, and a vertex outside is no nearer than the wall on its side. Cells are not kept: a query
 //! compares the point with all that lies in its strip.
 
 #![tactic(auto, using(grid_core::proofs::Signed::signed))]

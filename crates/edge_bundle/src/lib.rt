@@ -19,7 +19,7 @@
 mod laws;
 mod scan;
 
-pub use laws::rounding_is_drawn_within;
+pub use laws::{picture_is_drawn_within, rounding_is_drawn_within};
 pub use scan::locate;
 
 #[cfg(test)]

@@ -1,8 +1,10 @@
 //! The scan over the vertices and edges of a rounding.
 
-ghost use Rattle.std.specs.Prelude.{◌≡◌, ◌^◌};
+ghost use Rattle.std.specs.Prelude.{◌≡◌, ◌^◌, List};
 ghost use Rattle.grid_core.specs.Vector.{IsWithin};
-ghost use Rattle.grid_core.specs.Places.{place_among};
+ghost use Rattle.grid_core.specs.Segment.{Segment};
+ghost use Rattle.grid_core.specs.Rounding.{rounding_of};
+ghost use Rattle.grid_core.specs.Places.{place_among, place_of};
 ghost use Rattle.edge_bundle.specs.Drawn.{vertices_of, edges_of, IsDrawnWithin};
 
 use grid_core::{Place, Point};
@@ -15,7 +17,10 @@ use round_plain::Rounding;
 pub fn locate(picture: &Rounding, at: Point) -> Place
     requires drawn_within { IsDrawnWithin (2 ^ 30) picture.now }
     requires at_within { IsWithin (2 ^ 40) at }
-    ensures { result ≡ place_among (vertices_of picture.now) (edges_of picture.now) at }
+    ensures among { result ≡ place_among (vertices_of picture.now) (edges_of picture.now) at }
+    ensures place { (ss : List Segment)
+        → picture.now ≡ rounding_of ss
+        → result ≡ place_of ss at }
 {
     let mut nearest = Nearest::of_nothing();
     for vertex in picture.vertices() {

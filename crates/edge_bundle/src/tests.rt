@@ -5,7 +5,7 @@ ghost use Rattle.grid_core.specs.Name.{label_cmp};
 ghost use Rattle.grid_core.specs.LiveList.{names};
 ghost use Rattle.edge_bundle.specs.Drawn.{IsDrawnWithin};
 
-use crate::{locate, rounding_is_drawn_within};
+use crate::{locate, picture_is_drawn_within, rounding_is_drawn_within};
 use grid_core::{Edge, Memory, Name, Place, Point, Profile, Ur};
 use round_plain::{Rounding, round};
 use std::alloc::{AllocError, Global};
@@ -46,14 +46,16 @@ fn four(rt: &impl Abort, ends: [[i64; 4]; 4]) -> [Ur; 4]
     [first, second, third, fourth]
 }
 
-/// The rounding of these segments.
+/// The rounding of these segments. Either law alone would tell how far out it lies.
 fn drawn(alloc: Global, segments: &[Ur]) -> Result<Rounding, Memory>
     requires rising { IsStrictlySortedBy label_cmp (names segments.now) }
     requires few { length segments.now ≤ 65536 }
     ensures { IfOk result (λ r. IsDrawnWithin (2 ^ 30) r) }
 {
     rounding_is_drawn_within(segments);
-    round(alloc, segments)
+    let picture = round(alloc, segments)?;
+    picture_is_drawn_within(&picture);
+    Ok(picture)
 }
 
 /// The rounding of the first `count` of the four segments.

@@ -8,11 +8,11 @@
 //!
 //! ```text
 //!               b                Heights at q's column are fractions over the widths of
-//!             /                  the edges. Edges of one height there have a common end
-//!   a ------+------------ d      on it, as at a' below: going up from under a' the one
-//!         / :                    of less slope comes first, going down from above it the
-//!       c   : q                  one of greater slope, and of one slope the lesser edge.
-//!           :       _ -
+//!             /                  the edges. In a rounding, edges of one height there have a
+//!   a ------+------------ d      common end on it, as at a' below: going up from under a'
+//!         / :                    the one of less slope comes first, going down from above
+//!       c   : q                  it the one of greater slope, and of one slope the lesser
+//!           :       _ -          edge.
 //!     a' ---+-- _ - - - - - -
 //! ```
 //!
