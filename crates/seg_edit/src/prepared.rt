@@ -55,6 +55,13 @@ impl Prepared {
         self.renewal.change()
     }
 
+    /// The change alone.
+    pub fn into_change(self) -> Change
+        ensures { result ≡ self.change }
+    {
+        self.renewal.into_change()
+    }
+
     /// The change's tiles, by column and then row: those that its segments meet.
     pub fn tiles(&self) -> &[TileId]
         ensures { result.now ≡ tiles_of_edits self.now.profile self.now.change.edits }

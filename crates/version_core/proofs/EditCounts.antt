@@ -87,3 +87,13 @@ module _ {found i : ℕ} (es : List Edit) (e : Edit) (fits : i < length es) (her
   none_inserted s own now same =
       let all = one_more ∙ ap (λ f. found + length (inserted_names (f ∷ []))) own in
       record { few = omega (arith, h.few, same); all = omega (arith, all, same) }
+
+-- the same told by a count, and by edits that are the same ones
+pub counted_after : (n editor : ℕ) (ss : List Segment) (es fs : List Edit) (count : ℕ) → IsLiveList n ss → AreSegments n es
+    → FitEdits editor [] ss es → count ≡ length ss → fs ≡ es
+    → length (after_edits ss es) + length fs ≡ count + 2 * length (inserted_names fs)
+counted_after n editor ss es fs count live fits fit counted same =
+    let h = count_after n editor [] ss es live fits fit in
+    let a = ap length same in
+    let b = ap (λ us. length (inserted_names us)) same in
+    omega (arith, h, a, b, counted)

@@ -1,12 +1,13 @@
 //! The next version: what a change makes of a version, in its place or beside it.
 
-ghost use Rattle.std.specs.Prelude.{◌≡◌, ◌≤◌, ◌+◌, ◌*◌, ◌^◌, ◌+ℤ◌, ◌≤ℤ◌, pos, length};
+ghost use Rattle.std.specs.Prelude.{◌≡◌, ◌≤◌, ◌+◌, ◌*◌, ◌^◌, ◌+ℤ◌, ◌≤ℤ◌, pos, length, []};
 ghost use Rattle.std.specs.Prelude.{IfOk, OnOk, OnErr};
-ghost use Rattle.version_core.specs.Edits.{inserted_names};
+ghost use Rattle.version_core.specs.Edits.{inserted_names, after_edits, FitEdits};
+ghost use Rattle.version_core.specs.Laws.{AreSegments};
 ghost use Rattle.version_core.specs.Renewal.{Renews};
 ghost use Rattle.version_core.specs.Version.{MayFollow, IsNext, most_segments};
 
-use crate::change::Edit;
+use crate::change::{Change, Edit};
 use crate::renewal::Renewal;
 use crate::version::Version;
 use grid_core::Memory;
@@ -44,6 +45,15 @@ impl Version {
         let mut next = self.share()?;
         next.renew(renewal)?;
         Ok(next)
+    }
+
+    /// How many segments are live after a change that fits the live list. Takes no memory.
+    pub fn count_with(&self, change: &Change) -> usize
+        requires fits { FitEdits change.now.editor [] self.now.live change.now.edits }
+        requires within { AreSegments self.now.profile.bound change.now.edits }
+        ensures { result ≡ length (after_edits self.now.live change.now.edits) }
+    {
+        count_after(self.count, change.edits())
     }
 
     /// The same version once more. The two share all their tiles.

@@ -134,6 +134,13 @@ impl Renewal {
         &self.change
     }
 
+    /// The change alone.
+    pub fn into_change(self) -> Change
+        ensures { result ≡ self.change }
+    {
+        self.change
+    }
+
     /// How many passes the change gains: negative where there are fewer after it.
     pub fn gain(&self) -> i64
         ensures { result ≡ self.now.gain }
