@@ -7,7 +7,8 @@ use Rattle.version_core.specs.declared.change.Edit.TheVariants.{Insert, Delete}
 use Rattle.version_core.specs.Edits.{tiles_of_edits}
 use Rattle.version_core.specs.Laws.{AreSegments}
 use Rattle.version_core.specs.Renewal.{Renewed}
-use Rattle.version_core.specs.Stands.{PreparedChange}
+use Rattle.version_core.specs.Stands.{PreparedChange, Stands}
+use Rattle.version_core.specs.Version.{VersionState}
 
 -- a prepared change without its base
 abbrev pub renewal_of : PreparedChange → Renewed
@@ -26,3 +27,10 @@ pub record IsPrepared (pr : Sizes) (tiles : List TileId) (x : Renewed) : Type 0 
   pub whole : tiles ≡ tiles_of_edits pr x.change.edits
   pub within : AreSegments pr.bound x.change.edits
   pub own : AreOfEditor x.change.editor x.change.edits
+
+-- the change was prepared on the version: it has the version's number as its base, and its sizes, and
+-- it stands on the live list
+pub record IsPreparedOn (v : VersionState) (x : PreparedChange) : Type 0 where
+  pub base : x.base ≡ v.number
+  pub profile : x.profile ≡ v.profile
+  pub stands : Stands x v.live

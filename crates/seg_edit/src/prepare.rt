@@ -10,9 +10,10 @@ ghost use Rattle.grid_core.specs.Tiles.{along, tile_cmp};
 ghost use Rattle.hot_tile.specs.Tile.{segment_in};
 ghost use Rattle.version_core.specs.declared.change.Edit.TheVariants.{Insert, Delete};
 ghost use Rattle.version_core.specs.Looks.{with_looks, tile_look};
-ghost use Rattle.version_core.specs.Stands.{Stands, content_of};
+ghost use Rattle.version_core.specs.Stands.{content_of};
 ghost use Rattle.seg_edit.specs.declared.prepare.PrepareFault.{PrepareFault};
 ghost use Rattle.seg_edit.specs.Looks.{GrewByPrefix, looks_at};
+ghost use Rattle.seg_edit.specs.Prepared.{IsPreparedOn};
 
 use crate::prepared::Prepared;
 use crate::tiles::{Found, grow_tiles, thin_tiles};
@@ -53,9 +54,7 @@ pub fn prepare_insert(
     requires new { ¬ Contains (names base.now.live) ur.name }
     ensures change { IfOk result (λ x. x.change
         ≡ record { editor = ur.name.editor; edits = Insert ur ∷ [] }) }
-    ensures base { IfOk result (λ x. x.base ≡ base.now.number) }
-    ensures profile { IfOk result (λ x. x.profile ≡ base.now.profile) }
-    ensures stands { IfOk result (λ x. Stands x base.now.live) }
+    ensures prepared { IfOk result (IsPreparedOn base.now) }
     ensures looked { OnOk result
         (looked.new ≡ with_looks looked.old (map tile_look (along base.now.profile ur))) }
     ensures memory { OnErr result
@@ -81,9 +80,7 @@ pub fn prepare_delete(
     ensures known { OnOk result (Contains (names base.now.live) name) }
     ensures change { IfOk result (λ x. IfSome (segment_in base.now.live name)
         (λ s. x.change ≡ record { editor = editor; edits = Delete s ∷ [] })) }
-    ensures base { IfOk result (λ x. x.base ≡ base.now.number) }
-    ensures profile { IfOk result (λ x. x.profile ≡ base.now.profile) }
-    ensures stands { IfOk result (λ x. Stands x base.now.live) }
+    ensures prepared { IfOk result (IsPreparedOn base.now) }
     ensures looked { OnOk result (looked.new ≡ with_looks looked.old (looks_at base.now name)) }
     ensures looked_in_vain { IsErrOf result PrepareFault.Unknown
         → looked.new ≡ with_looks looked.old (looks_at base.now name) }
@@ -108,9 +105,7 @@ fn prepare_deletion(
     requires here { Contains base.now.live s.now }
     ensures change { IfOk result (λ x. x.change
         ≡ record { editor = editor; edits = Delete s.now ∷ [] }) }
-    ensures base { IfOk result (λ x. x.base ≡ base.now.number) }
-    ensures profile { IfOk result (λ x. x.profile ≡ base.now.profile) }
-    ensures stands { IfOk result (λ x. Stands x base.now.live) }
+    ensures prepared { IfOk result (IsPreparedOn base.now) }
     ensures looked { OnOk result
         (looked.new ≡ with_looks looked.old (map tile_look (along base.now.profile s.now))) }
     ensures memory { OnErr result
@@ -138,9 +133,7 @@ fn insertion(
         (λ e. option_copied e.1 ≡ content_of base.now.profile e.0 base.now.live) found.now }
     ensures change { IfOk result (λ x. x.change
         ≡ record { editor = ur.name.editor; edits = Insert ur ∷ [] }) }
-    ensures base { IfOk result (λ x. x.base ≡ base.now.number) }
-    ensures profile { IfOk result (λ x. x.profile ≡ base.now.profile) }
-    ensures stands { IfOk result (λ x. Stands x base.now.live) }
+    ensures prepared { IfOk result (IsPreparedOn base.now) }
 {
     let profile = base.profile();
     let _ = base.count();
@@ -172,9 +165,7 @@ fn deletion(
         (λ e. option_copied e.1 ≡ content_of base.now.profile e.0 base.now.live) found.now }
     ensures change { IfOk result (λ x. x.change
         ≡ record { editor = editor; edits = Delete s.now ∷ [] }) }
-    ensures base { IfOk result (λ x. x.base ≡ base.now.number) }
-    ensures profile { IfOk result (λ x. x.profile ≡ base.now.profile) }
-    ensures stands { IfOk result (λ x. Stands x base.now.live) }
+    ensures prepared { IfOk result (IsPreparedOn base.now) }
 {
     let profile = base.profile();
     let _ = base.count();

@@ -63,19 +63,24 @@ invariant_of-result c =
     c.profile-profile.result c.profile-profile.ensures.value c.sorted-tiles.result.items (ordered c) c.in_ok-of.field-0 c.args.editor
     (ap (λ r. r.change) c.in_ok-of.ensures ∙ changed c)
 
-pub returns-clause-stands : goal.returns-clause-stands
-returns-clause-stands c =
+pub returns-clause-prepared : goal.returns-clause-prepared
+returns-clause-prepared c =
     let v = c.args.base.now in
     let fits : SFits w128 c.in_ok-contents.gain = search rules in
     let narrow : SFits w64 c.narrow.result = search rules in
     let count : SFits w64 c.less-span_gain.result = search rules in
-    thinned_stands v.profile c.profile-profile.ensures.kept v.live c.count.ensures.kept c.count.ensures.few c.args.s.now (All-contains (IsSegment c.args.base.now.profile.bound) c.args.base.now.live c.args.s.now c.count.ensures.kept.within c.requires.here)
-    (found_contents c.args.found.now) (found_as_contents v.profile v.live c.args.found.now c.requires.value)
-    (found_turned v.profile c.args.s.now c.args.found.now c.requires.each) c.profile-profile.result c.profile-profile.ensures.value
-    c.in_ok-contents.contents c.in_ok-contents.gain c.in_ok-contents.ensures.gain c.requires.here
-    (c.in_ok-contents.ensures.contents
-    ∙ ap (λ n. map (thinned c.profile-profile.result n) (found_contents c.args.found.now)) c.name.ensures.value)
-    c.number.result c.args.editor c.sorted-tiles.result.items (ordered c) c.in_ok-change.change (changed c) _ _
-    (to_z-of_z narrow ∙ c.narrow.ensures ∙ to_z-of_z fits)
-    (to_z-of_z count ∙ c.less-span_gain.ensures.value ∙ ap (λ ts. pos 0 -ℤ pos (length ts)) c.deref.ensures.value)
-    c.in_ok-of.field-0 c.in_ok-of.ensures
+    record {
+      base = c.number.ensures;
+      profile = c.profile-profile.ensures.value;
+      stands =
+          thinned_stands v.profile c.profile-profile.ensures.kept v.live c.count.ensures.kept c.count.ensures.few c.args.s.now (All-contains (IsSegment c.args.base.now.profile.bound) c.args.base.now.live c.args.s.now c.count.ensures.kept.within c.requires.here)
+          (found_contents c.args.found.now) (found_as_contents v.profile v.live c.args.found.now c.requires.value)
+          (found_turned v.profile c.args.s.now c.args.found.now c.requires.each) c.profile-profile.result c.profile-profile.ensures.value
+          c.in_ok-contents.contents c.in_ok-contents.gain c.in_ok-contents.ensures.gain c.requires.here
+          (c.in_ok-contents.ensures.contents
+          ∙ ap (λ n. map (thinned c.profile-profile.result n) (found_contents c.args.found.now)) c.name.ensures.value)
+          c.number.result c.args.editor c.sorted-tiles.result.items (ordered c) c.in_ok-change.change (changed c) _ _
+          (to_z-of_z narrow ∙ c.narrow.ensures ∙ to_z-of_z fits)
+          (to_z-of_z count ∙ c.less-span_gain.ensures.value ∙ ap (λ ts. pos 0 -ℤ pos (length ts)) c.deref.ensures.value)
+          c.in_ok-of.field-0 c.in_ok-of.ensures;
+    }
