@@ -1,3 +1,4 @@
 pub mod StripOfPoint
 pub mod CellColumns
 pub mod Filling
+pub mod Exchanging

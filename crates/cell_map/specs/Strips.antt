@@ -3,6 +3,7 @@
 use Rattle.std.specs.Prelude.{◌≡◌, ℕ, ℤ, pos, int_le, Bool, ◌&&◌, if◌then◌else◌}
 use Rattle.std.specs.Prelude.{List, [], ◌∷◌, ◌++◌, filter, unwrap_or, All}
 use Rattle.std.specs.Int.{int_div_euclid}
+use Rattle.std.specs.List.{list_any}
 use Rattle.std.specs.Ordering.{int_cmp, int_eq}
 use Rattle.std.specs.Map.{lookup}
 use Rattle.std.specs.BTreeMap.{is_at}
@@ -65,3 +66,13 @@ Changes k f old new = ChangesWhere (is_at (int_cmp k)) f old new
 -- the strips of a graph, each as what lies in it
 abbrev pub AreStripsOf : Graph → Strips → Type 0
 AreStripsOf g strips = (k : ℤ) → strip_in strips k ≡ strip_of_graph g k
+
+-- the same lies in each strip
+abbrev pub HaveSame : Strips → Strips → Type 0
+HaveSame old new = (k : ℤ) → strip_in new k ≡ strip_in old k
+
+-- the new strips have what lies in those of the graph where a number is given, and what the old have
+-- elsewhere
+abbrev pub AreRefreshed : Graph → List ℤ → Strips → Strips → Type 0
+AreRefreshed g given old new =
+    (k : ℤ) → strip_in new k ≡ (if list_any (λ j. int_eq j k) given then strip_of_graph g k else strip_in old k)

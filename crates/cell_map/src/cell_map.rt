@@ -2,6 +2,7 @@
 
 use crate::Found;
 use crate::cell::strip_of;
+use crate::exchange::{exchange, keep_all, strips_of};
 use crate::fill::strips;
 use crate::strip::{Strip, find_among};
 use grid_core::{Memory, Point};
@@ -13,6 +14,7 @@ use std::marker::Model;
 /// What lies in each strip of a graph.
 #[derive(Drop)]
 pub struct CellMap {
+    alloc: Global,
     strips: BTreeMap<i64, Strip>,
 }
 
@@ -25,12 +27,13 @@ impl Model for CellMap {
 }
 
 impl CellMap {
-    ghost use Rattle.std.specs.Prelude.{◌≡◌, ◌^◌, All, IfOk};
+    ghost use Rattle.std.specs.Prelude.{◌≡◌, ◌^◌, All, IfOk, OnOk, OnErr};
     ghost use Rattle.grid_core.specs.Vector.{IsWithin};
     ghost use Rattle.grid_core.specs.Edge.{IsEdge};
     ghost use Rattle.grid_core.specs.Places.{strip_of};
     ghost use Rattle.planar_law.specs.PlanarEdges.{Graph};
     ghost use Rattle.cell_map.specs.Strips.{strip_in, strip_of_graph, AreStripsOf};
+    ghost use Rattle.cell_map.specs.Strips.{HaveSame, AreRefreshed};
     ghost use Rattle.cell_map.specs.Found.{found_among};
 
     /// The strips of a graph.
@@ -38,7 +41,19 @@ impl CellMap {
         ensures { IfOk result (AreStripsOf planar.now) }
     {
         let strips = strips(alloc, planar.vertices(), planar.edges())?;
-        Ok(CellMap { strips })
+        Ok(CellMap { alloc, strips })
+    }
+
+    /// Makes the strips with these numbers those of a graph, and leaves the others. After `Memory` the
+    /// same lies in each strip as before.
+    pub fn refresh(&mut self, strips: &[i64], planar: &PlanarEdges) -> Result<(), Memory>
+        ensures refreshed { OnOk result (AreRefreshed planar.now strips.now self.old self.new) }
+        ensures same { OnErr result (HaveSame self.old self.new) }
+    {
+        let made = strips_of(self.alloc, strips, planar.vertices(), planar.edges())?;
+        keep_all(self.alloc, &mut self.strips, strips)?;
+        exchange(&mut self.strips, made);
+        Ok(())
     }
 
     /// Where a query point, in 1/256 of a pixel, lies in its strip, with its cell. The point has no

@@ -24,6 +24,7 @@
 
 mod cell;
 mod cell_map;
+mod exchange;
 mod fill;
 mod found;
 mod strip;

@@ -4,10 +4,11 @@ ghost use Rattle.std.specs.Prelude.{◌≡◌, ◌^◌, All, OnOk};
 ghost use Rattle.grid_core.specs.Vector.{IsWithin};
 ghost use Rattle.place_test.specs.Reach.{IsEdgeWithin};
 ghost use Rattle.place_test.specs.Nearest.{around};
+ghost use Rattle.cell_map.specs.Strips.{meets_strip, lies_in_strip};
 ghost use Rattle.cell_map.specs.Found.{found_among};
 
 use crate::Found;
-use crate::cell::cell;
+use crate::cell::{cell, strip_at};
 use grid_core::{Edge, Memory, Place, Point};
 use place_test::Nearest;
 use std::alloc::Global;
@@ -35,10 +36,11 @@ impl Model for Strip {
 }
 
 impl Strip {
-    ghost use Rattle.std.specs.Prelude.{◌≡◌, ◌^◌, OnOk};
+    ghost use Rattle.std.specs.Prelude.{◌≡◌, ◌^◌, if◌then◌else◌, All, IfOk, OnOk};
     ghost use Rattle.grid_core.specs.Vector.{IsWithin};
     ghost use Rattle.place_test.specs.Reach.{IsEdgeWithin};
     ghost use Rattle.cell_map.specs.Strips.{empty_strip, with_edge, with_vertex};
+    ghost use Rattle.cell_map.specs.Strips.{meets_strip, lies_in_strip, strip_of_graph};
     ghost use Rattle.cell_map.specs.Found.{found_among};
 
     /// A strip in which nothing lies. Takes no memory.
@@ -48,6 +50,54 @@ impl Strip {
         Strip {
             edges: Vec::new(alloc),
             vertices: Vec::new(alloc),
+        }
+    }
+
+    /// What of a graph lies in a strip.
+    pub(crate) fn of(
+        alloc: Global,
+        k: i64,
+        vertices: &[Point],
+        edges: &[Edge],
+    ) -> Result<Strip, Memory>
+        requires vertices_within { All (IsWithin (2 ^ 30)) vertices.now }
+        requires edges_within { All (IsEdgeWithin (2 ^ 30)) edges.now }
+        ensures { IfOk result (λ s. s
+            ≡ strip_of_graph (record { edges = edges.now; vertices = vertices.now }) k) }
+    {
+        let mut strip = Strip::empty(alloc);
+        for e in edges {
+            strip.add_edge(k, e)?;
+        }
+        for h in vertices {
+            strip.add_vertex(k, *h)?;
+        }
+        Ok(strip)
+    }
+
+    /// Puts an edge behind the others, where it meets strip `k`.
+    fn add_edge(&mut self, k: i64, e: &Edge) -> Result<(), Memory>
+        requires { IsEdgeWithin (2 ^ 30) e.now }
+        ensures { OnOk result (self.new
+            ≡ (if meets_strip k e.now then with_edge e.now self.old else self.old)) }
+    {
+        if meets_strip(k, e) {
+            self.push_edge(e)
+        } else {
+            Ok(())
+        }
+    }
+
+    /// Puts a vertex behind the others, where it lies in strip `k`.
+    fn add_vertex(&mut self, k: i64, h: Point) -> Result<(), Memory>
+        requires { IsWithin (2 ^ 30) h }
+        ensures { OnOk result (self.new
+            ≡ (if lies_in_strip k h then with_vertex h self.old else self.old)) }
+    {
+        if lies_in_strip(k, h) {
+            self.push_vertex(h)
+        } else {
+            Ok(())
         }
     }
 
@@ -76,6 +126,24 @@ impl Strip {
     {
         find_among(self.vertices.as_slice(), self.edges.as_slice(), at)
     }
+}
+
+/// Whether the edge meets strip `k`.
+#[inline(always)]
+fn meets_strip(k: i64, e: &Edge) -> bool
+    requires { IsEdgeWithin (2 ^ 30) e.now }
+    ensures { result ≡ meets_strip k e.now }
+{
+    strip_at(e.a().x) <= k && k <= strip_at(e.b().x)
+}
+
+/// Whether the vertex lies in strip `k`.
+#[inline(always)]
+fn lies_in_strip(k: i64, h: Point) -> bool
+    requires { IsWithin (2 ^ 30) h }
+    ensures { result ≡ lies_in_strip k h }
+{
+    strip_at(h.x) == k
 }
 
 /// Where a query point lies among vertices and edges, with its cell in a strip of 256 columns.
