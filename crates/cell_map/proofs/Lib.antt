@@ -2,3 +2,4 @@ pub mod StripOfPoint
 pub mod CellColumns
 pub mod Filling
 pub mod Exchanging
+pub mod FirstNames
