@@ -14,5 +14,7 @@ mod prepared;
 mod tiles;
 
 pub use next::{apply, apply_in_place};
-pub use prepare::{PrepareFault, prepare_delete, prepare_insert};
+pub use prepare::{
+    PrepareFault, prepare_delete, prepare_delete_in, prepare_insert, prepare_insert_in,
+};
 pub use prepared::Prepared;

@@ -18,6 +18,7 @@ ghost use Rattle.seg_edit.specs.Prepared.{IsPreparedOn};
 use crate::prepared::Prepared;
 use crate::tiles::{Found, grow_tiles, thin_tiles};
 use grid_core::{Memory, Name, TileId, Ur};
+use hot_tile::Scratch;
 use std::alloc::Global;
 use version_core::{Change, Edit, Looked, Renewal, Version};
 
@@ -60,9 +61,33 @@ pub fn prepare_insert(
     ensures memory { OnErr result
         (GrewByPrefix (map tile_look (along base.now.profile ur)) looked.old looked.new) }
 {
+    prepare_insert_in(alloc, base, ur, looked, &mut Scratch::open(alloc))
+}
+
+/// `prepare_insert`, in scratch that the caller lends.
+pub fn prepare_insert_in(
+    alloc: Global,
+    base: &Version,
+    ur: Ur,
+    looked: &mut Looked,
+    scratch: &mut Scratch,
+) -> Result<Prepared, Memory>
+    requires brand { base.now.brand ≡ looked.old.brand }
+    requires within { IsSegment base.now.profile.bound ur }
+    requires new { ¬ Contains (names base.now.live) ur.name }
+    ensures change { IfOk result (λ x. x.change
+        ≡ record { editor = ur.name.editor; edits = Insert ur ∷ [] }) }
+    ensures base { IfOk result (λ x. x.base ≡ base.now.number) }
+    ensures profile { IfOk result (λ x. x.profile ≡ base.now.profile) }
+    ensures stands { IfOk result (λ x. Stands x base.now.live) }
+    ensures looked { OnOk result
+        (looked.new ≡ with_looks looked.old (map tile_look (along base.now.profile ur))) }
+    ensures memory { OnErr result
+        (GrewByPrefix (map tile_look (along base.now.profile ur)) looked.old looked.new) }
+{
     let tiles = tile_walk::tiles(alloc, &ur, &base.profile())?;
     let found = base.tiles(&tiles, looked)?;
-    insertion(alloc, base, ur, tiles, &found)
+    insertion(alloc, base, ur, tiles, &found, scratch)
 }
 
 /// The deletion of the segment of a name, by an editor from 1 to 64, prepared on a base. The looks grow
@@ -87,10 +112,37 @@ pub fn prepare_delete(
     ensures memory { IsErrOf result PrepareFault.Memory
         → GrewByPrefix (looks_at base.now name) looked.old looked.new }
 {
+    let mut scratch = Scratch::open(alloc);
+    prepare_delete_in(alloc, base, editor, name, looked, &mut scratch)
+}
+
+/// `prepare_delete`, in scratch that the caller lends.
+pub fn prepare_delete_in(
+    alloc: Global,
+    base: &Version,
+    editor: u8,
+    name: Name,
+    looked: &mut Looked,
+    scratch: &mut Scratch,
+) -> Result<Prepared, PrepareFault>
+    requires brand { base.now.brand ≡ looked.old.brand }
+    ensures unknown { IsErrOf result PrepareFault.Unknown → ¬ Contains (names base.now.live) name }
+    ensures known { OnOk result (Contains (names base.now.live) name) }
+    ensures change { IfOk result (λ x. IfSome (segment_in base.now.live name)
+        (λ s. x.change ≡ record { editor = editor; edits = Delete s ∷ [] })) }
+    ensures base { IfOk result (λ x. x.base ≡ base.now.number) }
+    ensures profile { IfOk result (λ x. x.profile ≡ base.now.profile) }
+    ensures stands { IfOk result (λ x. Stands x base.now.live) }
+    ensures looked { OnOk result (looked.new ≡ with_looks looked.old (looks_at base.now name)) }
+    ensures looked_in_vain { IsErrOf result PrepareFault.Unknown
+        → looked.new ≡ with_looks looked.old (looks_at base.now name) }
+    ensures memory { IsErrOf result PrepareFault.Memory
+        → GrewByPrefix (looks_at base.now name) looked.old looked.new }
+{
     let Some(s) = base.segment(name, looked)? else {
         return Err(PrepareFault::Unknown);
     };
-    Ok(prepare_deletion(alloc, base, editor, s, looked)?)
+    Ok(prepare_deletion(alloc, base, editor, s, looked, scratch)?)
 }
 
 /// The deletion of a live segment.
@@ -100,6 +152,7 @@ fn prepare_deletion(
     editor: u8,
     s: &Ur,
     looked: &mut Looked,
+    scratch: &mut Scratch,
 ) -> Result<Prepared, Memory>
     requires brand { base.now.brand ≡ looked.old.brand }
     requires here { Contains base.now.live s.now }
@@ -114,7 +167,7 @@ fn prepare_deletion(
     let _ = base.count();
     let tiles = tile_walk::tiles(alloc, s, &base.profile())?;
     let found = base.tiles(&tiles, looked)?;
-    deletion(alloc, base, editor, s, tiles, &found)
+    deletion(alloc, base, editor, s, tiles, &found, scratch)
 }
 
 /// The insertion, once its tiles are found.
@@ -124,6 +177,7 @@ fn insertion(
     ur: Ur,
     tiles: Vec<TileId>,
     found: &[Found],
+    scratch: &mut Scratch,
 ) -> Result<Prepared, Memory>
     requires within { IsSegment base.now.profile.bound ur }
     requires new { ¬ Contains (names base.now.live) ur.name }
@@ -137,7 +191,7 @@ fn insertion(
 {
     let profile = base.profile();
     let _ = base.count();
-    let (contents, gain) = grow_tiles(alloc, profile, found, &ur)?;
+    let (contents, gain) = grow_tiles(alloc, profile, found, &ur, scratch)?;
     let change = Change::one(alloc, ur.name().editor(), Edit::Insert(ur))?;
     let tiles = sorted(tiles);
     let span_gain = number(&tiles);
@@ -157,6 +211,7 @@ fn deletion(
     s: &Ur,
     tiles: Vec<TileId>,
     found: &[Found],
+    scratch: &mut Scratch,
 ) -> Result<Prepared, Memory>
     requires here { Contains base.now.live s.now }
     requires along { tiles.items ≡ along base.now.profile s.now }
@@ -169,7 +224,7 @@ fn deletion(
 {
     let profile = base.profile();
     let _ = base.count();
-    let (contents, gain) = thin_tiles(alloc, profile, found, s.name())?;
+    let (contents, gain) = thin_tiles(alloc, profile, found, s.name(), scratch)?;
     let change = Change::one(alloc, editor, Edit::Delete(*s))?;
     let tiles = sorted(tiles);
     let span_gain = less(&tiles);

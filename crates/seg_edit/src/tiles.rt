@@ -21,6 +21,7 @@ pub(crate) fn grow_tiles(
     profile: Profile,
     found: &[Found],
     s: &Ur,
+    scratch: &mut Scratch,
 ) -> Result<(NewTiles, i128), Memory>
     requires within { IsSegment profile.bound s.now }
     requires ready { All (λ e. MayGrow profile s.now (e.0, option_copied e.1)) found.now }
@@ -31,10 +32,9 @@ pub(crate) fn grow_tiles(
         (λ r. r.1 ≡ pos (passes_together r.0) -ℤ pos (passes_together (found_contents found.now))) }
 {
     let mut new = NewTiles::open(alloc, found.len().saturating_add(1))?;
-    let mut scratch = Scratch::open(alloc);
     let mut gain = 0;
     for tile in found {
-        let after = grow_tile(alloc, profile, tile, s, &mut scratch)?;
+        let after = grow_tile(alloc, profile, tile, s, scratch)?;
         gain = moved(gain, passes(tile.1), after.passes());
         new.push(tile.0, Some(after))?;
     }
@@ -67,6 +67,7 @@ pub(crate) fn thin_tiles(
     profile: Profile,
     found: &[Found],
     name: Name,
+    scratch: &mut Scratch,
 ) -> Result<(NewTiles, i128), Memory>
     requires ready { All (λ e. MayShrink profile name (e.0, option_copied e.1)) found.now }
     requires few { length found.now ≤ 2 ^ 32 }
@@ -76,10 +77,9 @@ pub(crate) fn thin_tiles(
         (λ r. r.1 ≡ pos (passes_together r.0) -ℤ pos (passes_together (found_contents found.now))) }
 {
     let mut new = NewTiles::open(alloc, found.len().saturating_add(1))?;
-    let mut scratch = Scratch::open(alloc);
     let mut gain = 0;
     for tile in found {
-        let after = thin_tile(profile, tile, name, &mut scratch)?;
+        let after = thin_tile(profile, tile, name, scratch)?;
         gain = moved(gain, passes(tile.1), passes(after.as_ref()));
         new.push(tile.0, after)?;
     }

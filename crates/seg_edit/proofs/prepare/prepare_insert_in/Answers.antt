@@ -5,7 +5,7 @@ use Rattle.tile_law.specs.Laws.{IsTileInReach}
 use Rattle.version_core.specs.Looks.{with_looks, tile_look}
 use Rattle.seg_edit.proofs.Ready.{along_in_reach}
 use Rattle.seg_edit.proofs.Reading.{on_err, grew_by_none, grew_by_all}
-use Rattle.seg_edit.proofs.prepare.prepare_insert.Goals as goal
+use Rattle.seg_edit.proofs.prepare.prepare_insert_in.Goals as goal
 
 pub returns-in_err-tiles-clause-memory : goal.returns-in_err-tiles-clause-memory
 returns-in_err-tiles-clause-memory c = on_err c.from_residual.result _ (grew_by_none _ c.args.looked.now _ refl)

@@ -3,7 +3,7 @@ use Rattle.std.specs.Prelude.{option_copied}
 use Rattle.grid_core.specs.LiveList.{names}
 use Rattle.version_core.proofs.Found.{segment_listed, name_listed}
 use Rattle.seg_edit.proofs.Reading.{grew_behind_name}
-use Rattle.seg_edit.proofs.prepare.prepare_delete.Goals as goal
+use Rattle.seg_edit.proofs.prepare.prepare_delete_in.Goals as goal
 
 pub prepare_deletion-requires-clause-here : goal.prepare_deletion-requires-clause-here
 prepare_deletion-requires-clause-here c =
