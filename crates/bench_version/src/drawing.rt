@@ -4,7 +4,10 @@ ghost use Rattle.std.specs.Prelude.{◌≡◌, ◌≤◌, ◌+◌, ◌<◌, ◌^
 ghost use Rattle.std.specs.Arc.{arc_value};
 
 use grid_core::{Memory, Name, Point, Profile, Ur};
-use seg_edit::{PrepareFault, Prepared, apply, apply_in_place, prepare_delete, prepare_insert};
+use hot_tile::Scratch;
+use seg_edit::{
+    PrepareFault, Prepared, apply, apply_in_place, prepare_delete_in, prepare_insert_in,
+};
 use std::alloc::Global;
 use std::mem;
 use std::sync::Arc;
@@ -34,6 +37,7 @@ pub(crate) struct Drawing {
     alloc: Global,
     version: Arc<Version>,
     looked: Looked,
+    scratch: Scratch,
     older: Vec<Arc<Version>>,
     ghost brand: { (arc_value version).brand ≡ looked.brand },
 }
@@ -50,6 +54,7 @@ impl Drawing {
             alloc,
             version,
             looked,
+            scratch: Scratch::open(alloc),
             older: Vec::new(alloc),
         })
     }
@@ -80,7 +85,13 @@ impl Drawing {
         match self.version.segment(s.name(), &mut self.looked)? {
             Some(_) => Ok(false),
             None => {
-                let prepared = prepare_insert(self.alloc, &self.version, s, &mut self.looked)?;
+                let prepared = prepare_insert_in(
+                    self.alloc,
+                    &self.version,
+                    s,
+                    &mut self.looked,
+                    &mut self.scratch,
+                )?;
                 self.follow(prepared, held)
             }
         }
@@ -91,7 +102,14 @@ impl Drawing {
         let Some(name) = Name::new(EDITOR, serial) else {
             return Ok(false);
         };
-        match prepare_delete(self.alloc, &self.version, EDITOR, name, &mut self.looked) {
+        match prepare_delete_in(
+            self.alloc,
+            &self.version,
+            EDITOR,
+            name,
+            &mut self.looked,
+            &mut self.scratch,
+        ) {
             Ok(prepared) => self.follow(prepared, held),
             Err(PrepareFault::Unknown) => Ok(false),
             Err(PrepareFault::Memory) => Err(Memory),
