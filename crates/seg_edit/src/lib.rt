@@ -13,7 +13,7 @@ mod prepare;
 mod prepared;
 mod tiles;
 
-pub use next::{apply, apply_in_place};
+pub use next::{apply, apply_beside, apply_in_place};
 pub use prepare::{
     PrepareFault, prepare_delete, prepare_delete_in, prepare_insert, prepare_insert_in,
 };

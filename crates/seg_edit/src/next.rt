@@ -20,6 +20,19 @@ pub fn apply(current: &Version, prepared: &Prepared) -> Result<Version, Memory>
     current.renewed(&mut renewal)
 }
 
+/// What `apply` gives, made of what was prepared itself and not of a copy: the new version shares its
+/// new tiles with the prepared change, which stays as it is.
+pub fn apply_beside(current: &Version, prepared: &mut Prepared) -> Result<Version, Memory>
+    requires profile { current.now.profile ≡ prepared.old.profile }
+    requires stands { Stands prepared.old current.now.live }
+    requires few { length (after_change current.now.live prepared.old.change) ≤ most_segments }
+    requires numbered { current.now.number + 1 < 2 ^ 32 }
+    ensures next { IfOk result (IsNext current.now prepared.old.change) }
+    ensures same { prepared.new ≡ prepared.old }
+{
+    current.renewed(&mut prepared.renewal)
+}
+
 /// Makes the current version the one after the prepared change: what `apply` gives, in its place.
 /// What nobody else holds is changed where it is. After `Memory` the version is as before, and the
 /// prepared change is in any case.
