@@ -1,0 +1,5 @@
+pub mod Touches
+pub mod Clashes
+pub mod Growing
+pub mod Apart
+pub mod Refusals

@@ -1,0 +1,5 @@
+pub mod Book
+pub mod Stamps
+pub mod Commit
+pub mod Committed
+pub mod Laws
