@@ -1,0 +1,6 @@
+pub mod Machine
+pub mod Limits
+pub mod Answer
+pub mod Step
+pub mod Output
+pub mod Laws
