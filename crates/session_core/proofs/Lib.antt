@@ -1,1 +1,5 @@
 pub mod OneEditor
+pub mod RowNotation
+pub mod WorkedRows
+pub mod WorkedQueries
+pub mod WorkedScripts
