@@ -2,4 +2,5 @@ pub mod OneEditor
 pub mod RowNotation
 pub mod WorkedRows
 pub mod WorkedQueries
+pub mod WorkedLimits
 pub mod WorkedScripts
