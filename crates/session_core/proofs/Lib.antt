@@ -1,4 +1,5 @@
 pub mod OneEditor
+pub mod States
 pub mod RowNotation
 pub mod WorkedRows
 pub mod WorkedQueries

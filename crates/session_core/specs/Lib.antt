@@ -3,4 +3,5 @@ pub mod Limits
 pub mod Answer
 pub mod Step
 pub mod Output
+pub mod States
 pub mod Laws

@@ -13,6 +13,7 @@
 #![tactic(auto)]
 
 ghost use Rattle.session_core.specs.Laws.{OneEditorIsNeverStale, UnclashedIsCommitted};
+ghost use Rattle.session_core.specs.States.{CommandsLeadToStates};
 
 use grid_core::Profile;
 
@@ -25,4 +26,11 @@ pub fn one_editor_is_never_stale(profile: &Profile)
 /// unless the drawing is full.
 pub fn unclashed_is_committed(profile: &Profile)
     ensures { UnclashedIsCommitted profile.now }
+{}
+
+/// Whatever the commands, numbers stay within their limits: an editor holds a version that there is,
+/// a prepared change is based on one, a serial is at most 65,535, the history has at most 262,144
+/// changes, and the live list after it passes no limit.
+pub fn commands_lead_to_states(profile: &Profile)
+    ensures { CommandsLeadToStates profile.now }
 {}
