@@ -77,9 +77,7 @@ pub fn prepare_insert_in(
     requires new { ¬ Contains (names base.now.live) ur.name }
     ensures change { IfOk result (λ x. x.change
         ≡ record { editor = ur.name.editor; edits = Insert ur ∷ [] }) }
-    ensures base { IfOk result (λ x. x.base ≡ base.now.number) }
-    ensures profile { IfOk result (λ x. x.profile ≡ base.now.profile) }
-    ensures stands { IfOk result (λ x. Stands x base.now.live) }
+    ensures prepared { IfOk result (IsPreparedOn base.now) }
     ensures looked { OnOk result
         (looked.new ≡ with_looks looked.old (map tile_look (along base.now.profile ur))) }
     ensures memory { OnErr result
@@ -130,9 +128,7 @@ pub fn prepare_delete_in(
     ensures known { OnOk result (Contains (names base.now.live) name) }
     ensures change { IfOk result (λ x. IfSome (segment_in base.now.live name)
         (λ s. x.change ≡ record { editor = editor; edits = Delete s ∷ [] })) }
-    ensures base { IfOk result (λ x. x.base ≡ base.now.number) }
-    ensures profile { IfOk result (λ x. x.profile ≡ base.now.profile) }
-    ensures stands { IfOk result (λ x. Stands x base.now.live) }
+    ensures prepared { IfOk result (IsPreparedOn base.now) }
     ensures looked { OnOk result (looked.new ≡ with_looks looked.old (looks_at base.now name)) }
     ensures looked_in_vain { IsErrOf result PrepareFault.Unknown
         → looked.new ≡ with_looks looked.old (looks_at base.now name) }
