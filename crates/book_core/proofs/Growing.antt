@@ -84,7 +84,6 @@ pub rebased : (b : BookState) → IsBook b → 0 < b.version.profile.side → (x
     → Stands x (live b.history)
 rebased b is some x may own apart =
     changes_are_rebased b.version.profile some x b.history may.profile (record {
-      based = may.based;
       own = own;
       others = subst (λ p. AreOf p.bound b.history) (sym may.profile) is.within;
       fits = is.fits;
