@@ -1,6 +1,6 @@
 //! A drawing whose changes are prepared and applied one after the other.
 
-ghost use Rattle.std.specs.Prelude.{◌≡◌, ◌≤◌, ◌+◌, ◌<◌, ◌^◌, length};
+ghost use Rattle.std.specs.Prelude.{◌≡◌};
 ghost use Rattle.std.specs.Arc.{arc_value};
 
 use grid_core::{Memory, Name, Point, Profile, Ur};
@@ -43,10 +43,9 @@ pub(crate) struct Drawing {
 }
 
 impl Drawing {
-    ghost use Rattle.std.specs.Prelude.{◌≡◌, ◌≤◌, ◌+◌, ◌<◌, ◌^◌, length};
+    ghost use Rattle.std.specs.Prelude.{◌≡◌};
     ghost use Rattle.std.specs.Arc.{arc_value};
-    ghost use Rattle.version_core.specs.Stands.{Stands, after_change};
-    ghost use Rattle.version_core.specs.Version.{most_segments};
+    ghost use Rattle.version_core.specs.Stands.{Stands};
 
     pub(crate) fn open(alloc: Global) -> Result<Drawing, Memory> {
         let (version, looked) = Version::open(alloc, Profile::edition_one(), 1)?;

@@ -1,4 +1,4 @@
-use Rattle.std.proofs.Common.{rules, arith, ◌<◌, length, ◌≡◌, sym, subst, ap, ◌∙◌}
+use Rattle.std.proofs.Common.{rules, arith, ◌<◌, length, sym, subst, ap, ◌∙◌}
 use Rattle.std.specs.Arc.{arc_value}
 use Rattle.grid_core.specs.LiveList.{IsLiveList}
 use Rattle.bench_version.proofs.Counts.{few_follow}
