@@ -3,3 +3,4 @@ pub mod Standing
 pub mod Moving
 pub mod Ready
 pub mod Reading
+pub mod Waiting

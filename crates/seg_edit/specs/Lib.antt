@@ -1,3 +1,4 @@
 pub mod Contents
 pub mod Prepared
 pub mod Looks
+pub mod Waiting

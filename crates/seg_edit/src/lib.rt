@@ -11,6 +11,8 @@
 mod next;
 mod prepare;
 mod prepared;
+#[cfg(test)]
+mod tests;
 mod tiles;
 
 pub use next::{apply, apply_beside, apply_in_place};
