@@ -27,17 +27,19 @@ most_spans = 2 ^ 22
 abbrev pub most_passes : ℕ
 most_passes = 2 ^ 22
 
--- the first of the four causes, in their order, why a history doesn't take one change more that makes
--- this live list
-abbrev pub full_of : Sizes → List Changes → List Segment → Option FullOf
-full_of pr h ss =
-    if nat_lt (length h) most_commits
-    then if nat_lt most_segments (length ss)
+-- the first of three bounds, in their order, that a live list passes
+abbrev pub passed_by : Sizes → List Segment → Option FullOf
+passed_by pr ss =
+    if nat_lt most_segments (length ss)
     then Some Segments
     else if nat_lt most_spans (spans_of pr ss)
     then Some Spans
     else if nat_lt most_passes (passes_of ss) then Some Passes else None
-    else Some Commits
+
+-- the first of the four causes, in their order, why a history doesn't take one change more that makes
+-- this live list
+abbrev pub full_of : Sizes → List Changes → List Segment → Option FullOf
+full_of pr h ss = if nat_lt (length h) most_commits then passed_by pr ss else Some Commits
 
 -- why the change isn't taken: stale comes before full
 abbrev pub refusal_by : Option (ℕ × TileId) → Option FullOf → Option Refusal
@@ -45,12 +47,15 @@ refusal_by (Some c) full = Some (Stale c.0 c.1)
 refusal_by None (Some f) = Some (Full f)
 refusal_by None None = None
 
--- why a book doesn't take a prepared change: a change after its base shares a tile with it, the last
--- such change and the least tile being named; or the drawing is full; none where it takes the change
+-- why a history doesn't take a change that was prepared after its first changes, so many as the base
+-- says: a change after the base shares a tile with it, the last such change and the least tile being
+-- named; or the drawing is full; none where it takes the change
+abbrev pub refusal_for : Sizes → List Changes → ℕ → Changes → Option Refusal
+refusal_for pr h base x = refusal_by (clash pr h base x) (full_of pr h (after_edits (live h) x.edits))
+
+-- why a book doesn't take a prepared change, none where it takes it
 abbrev pub refusal_of : BookState → PreparedChange → Option Refusal
-refusal_of b x =
-    refusal_by (clash b.version.profile b.history x.base x.change)
-    (full_of b.version.profile b.history (after_edits (live b.history) x.change.edits))
+refusal_of b x = refusal_for b.version.profile b.history x.base x.change
 
 -- what is asked of a prepared change: it has the book's profile, it was prepared after the first
 -- changes of the history, and the names that it inserts aren't in the history

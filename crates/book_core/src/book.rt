@@ -66,4 +66,12 @@ impl Book {
     {
         Ok(self.version.clone()?)
     }
+
+    /// The version after the whole history, lent. Takes no memory.
+    pub fn newest(&self) -> &Version
+        ensures value { result.now ≡ self.now.version }
+        ensures kept { IsBook self.now }
+    {
+        &self.version
+    }
 }

@@ -1,10 +1,10 @@
 //! The step by which a book takes a prepared change.
 
-ghost use Rattle.std.specs.Prelude.{◌≡◌, ◌≤◌, ◌<◌, ◌+◌, ◌^◌, length, IfOk, OnOk, OnErr};
+ghost use Rattle.std.specs.Prelude.{◌≡◌, ◌≤◌, ◌<◌, ◌+◌, ◌^◌, length, None, IfOk, IfErr, OnOk, OnErr};
 ghost use Rattle.std.specs.Arc.{arc_value};
 ghost use Rattle.version_core.specs.Stands.{Stands, after_change};
 ghost use Rattle.version_core.specs.Version.{IsNext, most_segments};
-ghost use Rattle.book_core.specs.Commit.{MayCommit, Settles};
+ghost use Rattle.book_core.specs.Commit.{MayCommit, Settles, Took, refusal_of};
 ghost use Rattle.book_core.specs.Committed.{Commits};
 
 use crate::book::Book;
@@ -41,9 +41,9 @@ pub enum Committed {
 }
 
 impl Book {
-    /// Takes a prepared change, unless it is stale or the drawing is full. Where nobody else holds the
-    /// newest version it is changed where it is, so that one editor alone copies nothing. A refusal
-    /// takes no memory.
+    /// Takes a prepared change, unless it is stale or the drawing is full: `refusal`, and then `append`.
+    /// Where nobody else holds the newest version it is changed where it is, so that one editor alone
+    /// copies nothing. A refusal takes no memory.
     pub fn commit_newest(&mut self, prepared: Prepared) -> Settled
         requires may { MayCommit self.old prepared }
         ensures { Settles self.old prepared self.new result }
@@ -51,16 +51,33 @@ impl Book {
         if let Some(refusal) = self.refusal(&prepared) {
             return Settled::Refused(refusal);
         }
+        match self.append(prepared) {
+            Ok(number) => Settled::Done(number),
+            Err(prepared) => Settled::Memory(prepared),
+        }
+    }
+
+    /// Takes a prepared change that the book doesn't refuse, and gives the number under which it was
+    /// taken. Where nobody else holds the newest version it is changed where it is. The error is want of
+    /// memory: the book is as before, and the prepared change comes back.
+    pub fn append(&mut self, prepared: Prepared) -> Result<u32, Prepared>
+        requires may { MayCommit self.old prepared }
+        requires unrefused { refusal_of self.old prepared ≡ None }
+        ensures took { OnOk result (Took self.old prepared.change self.new) }
+        ensures number { IfOk result (λ n. n ≡ length self.new.history) }
+        ensures memory { OnErr result (self.new ≡ self.old) }
+        ensures back { IfErr result (λ x. x ≡ prepared) }
+    {
         self.is_rebased(&prepared);
         let mut prepared = prepared;
         if self.history.reserve(1).is_err() {
-            return Settled::Memory(prepared);
+            return Err(prepared);
         }
         if renew(&mut self.version, self.alloc, &mut prepared).is_err() {
-            return Settled::Memory(prepared);
+            return Err(prepared);
         }
         let _ = self.history.push(prepared.into_change());
-        Settled::Done(self.version.number())
+        Ok(self.version.number())
     }
 
     /// Takes a prepared change as `commit_newest` does, and gives the version after it. That version is

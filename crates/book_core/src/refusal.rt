@@ -47,8 +47,9 @@ pub enum Refusal {
 }
 
 impl Book {
-    /// Why the book doesn't take the prepared change, `None` where it takes it. Takes no memory.
-    pub(crate) fn refusal(&self, prepared: &Prepared) -> Option<Refusal>
+    /// Why the book doesn't take the prepared change, `None` where it takes it: stale before full, and
+    /// the bounds in the order of `FullOf`. Takes no memory.
+    pub fn refusal(&self, prepared: &Prepared) -> Option<Refusal>
         requires may { MayCommit self.now prepared.now }
         ensures { result ≡ refusal_of self.now prepared.now }
     {

@@ -1,16 +1,14 @@
-use Rattle.std.proofs.Common.{rules, subst, ◌≡◌, ◌++◌, ◌∷◌, [], None}
+use Rattle.std.proofs.Common.{rules, subst, ◌≡◌, ◌++◌, ◌∷◌, []}
 use Rattle.std.specs.Arc.{arc_value}
 use Rattle.version_core.specs.Version.{IsNext}
 use Rattle.book_core.specs.Book.{IsBook}
-use Rattle.book_core.specs.Commit.{refusal_of}
 use Rattle.book_core.proofs.Growing.{took_prepared}
-use Rattle.book_core.proofs.book.Book.commit_newest.Goals as goal
+use Rattle.book_core.proofs.book.Book.append.Goals as goal
 
 -- src/commit.rt
 pub invariant_of-self-2 : goal.invariant_of-self-2
 invariant_of-self-2 c =
-    let none : refusal_of c.args.self.now c.args.prepared ≡ None = search rules in
     let pushed : c.push.new.self.items ≡ c.args.self.now.history ++ c.args.prepared.change ∷ [] = search rules in
     let next : IsNext c.args.self.now.version c.args.prepared.change (arc_value c.renew.new.version) = search rules in
-    took_prepared c.args.self.now (subst IsBook c.self.view_is c.self.invariant) c.args.prepared c.requires.may none
+    took_prepared c.args.self.now (subst IsBook c.self.view_is c.self.invariant) c.args.prepared c.requires.may c.requires.unrefused
     c.is_rebased.ensures.stands c.is_rebased.ensures.within c.push.new.self.items (arc_value c.renew.new.version) pushed next
