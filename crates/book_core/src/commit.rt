@@ -4,6 +4,7 @@ ghost use Rattle.std.specs.Prelude.{◌≡◌, ◌≤◌, ◌<◌, ◌+◌, ◌^
 ghost use Rattle.std.specs.Arc.{arc_value};
 ghost use Rattle.version_core.specs.Stands.{Stands, after_change};
 ghost use Rattle.version_core.specs.Version.{IsNext, most_segments};
+ghost use Rattle.book_core.specs.Book.{IsBook};
 ghost use Rattle.book_core.specs.Commit.{MayCommit, Settles, Took, refusal_of};
 ghost use Rattle.book_core.specs.Committed.{Commits};
 
@@ -67,6 +68,7 @@ impl Book {
         ensures number { IfOk result (λ n. n ≡ length self.new.history) }
         ensures memory { OnErr result (self.new ≡ self.old) }
         ensures back { IfErr result (λ x. x ≡ prepared) }
+        ensures kept { IsBook self.new }
     {
         self.is_rebased(&prepared);
         let mut prepared = prepared;

@@ -1,3 +1,8 @@
+pub mod Drawing
+pub mod Seats
+pub mod SeatLists
+pub mod Worlds
+pub mod Taken
 pub mod OneEditor
 pub mod States
 pub mod RowNotation

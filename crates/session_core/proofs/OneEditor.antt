@@ -18,19 +18,19 @@ use Rattle.grid_core.specs.Vector.{point_eq}
 use Rattle.grid_core.specs.Edge.{EdgeEnds, edge_between, edge_eq}
 use Rattle.grid_core.specs.Segment.{Segment}
 use Rattle.hot_tile.specs.Tile.{segment_in}
-use Rattle.version_core.specs.Edits.{Changes}
-use Rattle.version_core.specs.History.{clash, clash_with}
+use Rattle.version_core.specs.Edits.{Changes, after_edits}
+use Rattle.version_core.specs.History.{live, clash, clash_with}
+use Rattle.book_core.specs.declared.refusal.FullOf.{FullOf}
+use Rattle.book_core.specs.Commit.{full_of, refusal_by}
 use Rattle.script_read.specs.declared.command.Act.{Act}
 use Rattle.script_read.specs.declared.command.Act.TheVariants.{Take, Insert, Delete, Reads, Commit, Drop, Ask}
 use Rattle.script_read.specs.declared.command.Command.{Command}
 use Rattle.script_read.specs.declared.command.Query.{Query}
 use Rattle.script_read.specs.declared.command.Query.TheVariants.{Locate, Route, Hot, Bundle, Contour, Show}
-use Rattle.script_read.specs.declared.reply.FullText.{FullText}
 use Rattle.script_read.specs.declared.reply.Refusal.{Refusal}
 use Rattle.script_read.specs.declared.reply.Said.{Said}
 use Rattle.script_read.specs.declared.reply.Said.TheVariants.{Hot as IsHot, Cold, Bundle as IsBundle, NoEdge}
 use Rattle.session_core.specs.Machine.{BasedChange, Session, State, editors, new_session, start, session_of, live_at}
-use Rattle.session_core.specs.Limits.{full_for}
 use Rattle.session_core.specs.Answer.{answer, place_said, route_said, bundle_said, contour_said}
 use Rattle.session_core.specs.Step.{Outcome, stays, inserting, insert_refusal, deleting, reads_said, after_drop, committing, after_commit, outcome, step, replies}
 use Rattle.session_core.specs.Laws.{is_stale, OneEditorIsNeverStale}
@@ -107,8 +107,8 @@ unclashed : (pr : Sizes) (h : List Changes) (b : ℕ) (x : Changes) → b ≡ le
 unclashed pr h b x e =
     ap (λ ys. last_or None (filter_map (clash_with pr x) (enumerate_from (b + 1) ys))) (drop_all b h (omega (arith, e)))
 
-decided : (h : List Changes) (s : Session) (x : Changes) (c : Option (ℕ × TileId)) (full : Option FullText) → c ≡ None
-    → IsUpToDate h s → IsFresh (committing h s x c full)
+decided : (h : List Changes) (s : Session) (x : Changes) (c : Option (ℕ × TileId)) (full : Option FullOf) → c ≡ None
+    → IsUpToDate h s → IsFresh (committing h s x (refusal_by c full))
 decided h s x (Some c) full none u = absurd (true≢false (ap is_some none))
 decided h s x None (Some what) none u = record { current = record { newest = u.newest; based = tt }; said = refl }
 decided h s x None None none u =
@@ -118,7 +118,8 @@ committed : (pr : Sizes) (h : List Changes) (s : Session) (p : Option BasedChang
     → IfSome p (λ x. x.base ≡ length h) → IsFresh (after_commit pr h s p)
 committed pr h s None u based = record { current = u; said = refl }
 committed pr h s (Some x) u based =
-    decided h s x.change (clash pr h x.base x.change) (full_for pr h x.change) (unclashed pr h x.base x.change based) u
+    decided h s x.change (clash pr h x.base x.change) (full_of pr h (after_edits (live h) x.change.edits))
+    (unclashed pr h x.base x.change based) u
 
 done : (pr : Sizes) (h : List Changes) (editor : ℕ) (s : Session) (act : Act) → IsUpToDate h s
     → IsFresh (outcome pr h editor s act)

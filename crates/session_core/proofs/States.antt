@@ -1,7 +1,7 @@
 -- Numbers stay within their limits: what is asked of a state holds at the start, and each step keeps it.
 -- By cases on the act, and by induction on the commands.
 use Rattle.std.proofs.Common.{◌≡◌, refl, sym, ap, subst, ◌∙◌, arith, length-append, ℕ, zero, suc, ◌+◌, ◌-◌, ◌≤◌, Bool, true, false, true≢false, List, [], ◌∷◌, ◌++◌, length, set, get_or, replicate, Option, Some, None, IfSome, is_some, nat_le}
-use Rattle.std.specs.Prelude.{if◌then◌else◌, ◌||◌}
+use Rattle.std.specs.Prelude.{if◌then◌else◌, ◌||◌, nat_lt}
 use Rattle.std.specs.List.{AllByRecursion}
 use Rattle.std.proofs.lemmas.List.{length-set}
 use Rattle.std.proofs.lemmas.List.Sums.{fold_push}
@@ -13,15 +13,17 @@ use Rattle.grid_core.specs.Segment.{Segment}
 use Rattle.hot_tile.specs.Tile.{segment_in}
 use Rattle.version_core.specs.Edits.{Changes, after_edits}
 use Rattle.version_core.specs.History.{live, clash}
+use Rattle.book_core.specs.Book.{most_commits}
+use Rattle.book_core.specs.declared.refusal.FullOf.{FullOf}
+use Rattle.book_core.specs.declared.refusal.FullOf.TheVariants.{Commits}
+use Rattle.book_core.specs.Commit.{passed_by, full_of, refusal_by}
 use Rattle.script_read.specs.declared.command.Act.{Act}
 use Rattle.script_read.specs.declared.command.Act.TheVariants.{Take, Insert, Delete, Reads, Commit, Drop, Ask}
 use Rattle.script_read.specs.declared.command.Command.{Command}
-use Rattle.script_read.specs.declared.reply.FullText.{FullText}
-use Rattle.script_read.specs.declared.reply.FullText.TheVariants.{Commits}
 use Rattle.script_read.specs.declared.reply.Refusal.{Refusal}
 use Rattle.script_read.specs.declared.reply.Refusal.TheVariants.{Busy, Range, Point as OnePoint, Serials}
 use Rattle.session_core.specs.Machine.{BasedChange, Session, State, editors, new_session, start, session_of, live_at}
-use Rattle.session_core.specs.Limits.{most_commits, most_serials, passed_by, full_for}
+use Rattle.session_core.specs.Limits.{most_serials}
 use Rattle.session_core.specs.Step.{Outcome, leaves_bound, insert_refusal, inserting, deleting, after_drop, committing, after_commit, outcome, step}
 use Rattle.session_core.specs.States.{IsSession, IsState, CommandsLeadToStates, after_commands}
 
@@ -120,20 +122,24 @@ dropped : (pr : Sizes) (h : List Changes) (s : Session) (p : Option BasedChange)
 dropped pr h s None roomy own = stayed pr h (after_drop h s None) refl roomy own
 dropped pr h s (Some x) roomy own = stayed pr h (after_drop h s (Some x)) refl roomy (given_up (length h) s own)
 
-commits_left : (b : Bool) (p : Option FullText) → (if b then Some Commits else p) ≡ None → (b ≡ false) × (p ≡ None)
-commits_left true p e = absurd (true≢false (ap is_some e))
-commits_left false p e = (refl, e)
+commits_left : (b : Bool) (p : Option FullOf) → (if b then p else Some Commits) ≡ None → (b ≡ true) × (p ≡ None)
+commits_left true p e = (refl, e)
+commits_left false p e = absurd (true≢false (ap is_some e))
 
-decided : (pr : Sizes) (h : List Changes) (s : Session) (x : Changes) (c : Option (ℕ × TileId)) (full : Option FullText)
-    → full_for pr h x ≡ full → IsRoomy pr h → IsSession (length h) s → IsKept pr h (committing h s x c full)
+below : (m n : ℕ) → nat_lt m n ≡ true → m + 1 ≤ n
+below m n e = grind (arith)
+
+decided : (pr : Sizes) (h : List Changes) (s : Session) (x : Changes) (c : Option (ℕ × TileId)) (full : Option FullOf)
+    → full_of pr h (after_edits (live h) x.edits) ≡ full → IsRoomy pr h → IsSession (length h) s
+    → IsKept pr h (committing h s x (refusal_by c full))
 decided pr h s x (Some c) full e roomy own =
-    stayed pr h (committing h s x (Some c) full) refl roomy (given_up (length h) s own)
+    stayed pr h (committing h s x (refusal_by (Some c) full)) refl roomy (given_up (length h) s own)
 decided pr h s x None (Some what) e roomy own =
-    stayed pr h (committing h s x None (Some what)) refl roomy (given_up (length h) s own)
+    stayed pr h (committing h s x (refusal_by None (Some what))) refl roomy (given_up (length h) s own)
 decided pr h s x None None e roomy own =
-    let left = commits_left (nat_le most_commits (length h)) (passed_by pr (after_edits (live h) x.edits)) e in
+    let left = commits_left (nat_lt (length h) most_commits) (passed_by pr (after_edits (live h) x.edits)) e in
     let long : length (h ++ x ∷ []) ≡ length h + 1 = length-append h (x ∷ []) in
-    let most : length h + 1 ≤ most_commits = one_more most_commits (length h) left.0 in
+    let most : length h + 1 ≤ most_commits = below (length h) most_commits left.0 in
     record {
       grown = omega (arith, long);
       roomy = record {
@@ -147,7 +153,7 @@ committed : (pr : Sizes) (h : List Changes) (s : Session) (p : Option BasedChang
     → IsKept pr h (after_commit pr h s p)
 committed pr h s None roomy own = stayed pr h (after_commit pr h s None) refl roomy own
 committed pr h s (Some x) roomy own =
-    decided pr h s x.change (clash pr h x.base x.change) (full_for pr h x.change) refl roomy own
+    decided pr h s x.change (clash pr h x.base x.change) (full_of pr h (after_edits (live h) x.change.edits)) refl roomy own
 
 kept : (pr : Sizes) (h : List Changes) (editor : ℕ) (s : Session) (act : Act) → IsRoomy pr h → IsSession (length h) s
     → IsKept pr h (outcome pr h editor s act)

@@ -1,21 +1,21 @@
 -- Each limit at its border: what is the last number that is left room for, and which limit is told
 -- first where several stand against a change.
 use Rattle.std.proofs.Common.{◌≡◌, refl, ap, ℕ, List, length, Option, Some, None}
-use Rattle.std.specs.Prelude.{nat_lt, nat_le, if◌then◌else◌}
+use Rattle.std.specs.Prelude.{nat_lt, if◌then◌else◌}
 use Rattle.grid_core.specs.declared.tile.TileId.{TileId}
 use Rattle.grid_core.specs.Profile.{Sizes}
 use Rattle.grid_core.specs.Segment.{Segment}
 use Rattle.tile_law.specs.Parts.{passes_of}
-use Rattle.version_core.specs.Edits.{Changes, after_edits}
-use Rattle.version_core.specs.History.{live}
+use Rattle.version_core.specs.Edits.{Changes}
 use Rattle.version_core.specs.Stands.{spans_of}
 use Rattle.version_core.specs.Version.{most_segments}
-use Rattle.script_read.specs.declared.reply.FullText.{FullText}
-use Rattle.script_read.specs.declared.reply.FullText.TheVariants.{Commits, Segments, Spans, Passes}
+use Rattle.book_core.specs.Book.{most_commits}
+use Rattle.book_core.specs.Commit.{most_spans, most_passes, passed_by, full_of, refusal_by}
+use Rattle.book_core.specs.declared.refusal.FullOf.{FullOf}
+use Rattle.book_core.specs.declared.refusal.FullOf.TheVariants.{Commits, Segments, Spans, Passes}
 use Rattle.script_read.specs.declared.reply.Refusal.TheVariants.{Busy, Range, Point as OnePoint, Serials}
 use Rattle.script_read.specs.declared.reply.Said.TheVariants.{Stale}
 use Rattle.session_core.specs.Machine.{BasedChange, Session}
-use Rattle.session_core.specs.Limits.{most_commits, most_spans, most_passes, passed_by, full_for}
 use Rattle.session_core.specs.Step.{insert_refusal, committing}
 use Rattle.session_core.proofs.RowNotation.{sizes, at}
 
@@ -42,25 +42,24 @@ busy-range x = refl
 
 -- ---- commits: stale, then full by changes, segments, spans, passes
 
-stale-full : (h : List Changes) (s : Session) (x : Changes) (c : ℕ × TileId) (what : FullText)
-    → (committing h s x (Some c) (Some what)).said ≡ Stale c.0 c.1
+stale-full : (h : List Changes) (s : Session) (x : Changes) (c : ℕ × TileId) (what : FullOf)
+    → (committing h s x (refusal_by (Some c) (Some what))).said ≡ Stale c.0 c.1
 stale-full h s x c what = refl
 
--- what is said by the number of changes
-by_commits : (pr : Sizes) (h : List Changes) (x : Changes) (n : ℕ) → length h ≡ n
-    → full_for pr h x ≡ (if nat_le most_commits n then Some Commits else passed_by pr (after_edits (live h) x.edits))
-by_commits pr h x n e =
-    ap (λ k. if nat_le most_commits k then Some Commits else passed_by pr (after_edits (live h) x.edits)) e
+-- what is full by the number of changes
+by_commits : (pr : Sizes) (h : List Changes) (ss : List Segment) (n : ℕ) → length h ≡ n
+    → full_of pr h ss ≡ (if nat_lt n most_commits then passed_by pr ss else Some Commits)
+by_commits pr h ss n e = ap (λ k. if nat_lt k most_commits then passed_by pr ss else Some Commits) e
 
-last_commit : (pr : Sizes) (h : List Changes) (x : Changes) → length h ≡ 262143
-    → full_for pr h x ≡ passed_by pr (after_edits (live h) x.edits)
-last_commit pr h x e = by_commits pr h x 262143 e
+last_commit : (pr : Sizes) (h : List Changes) (ss : List Segment) → length h ≡ 262143
+    → full_of pr h ss ≡ passed_by pr ss
+last_commit pr h ss e = by_commits pr h ss 262143 e
 
-commits : (pr : Sizes) (h : List Changes) (x : Changes) → length h ≡ 262144 → full_for pr h x ≡ Some Commits
-commits pr h x e = by_commits pr h x 262144 e
+commits : (pr : Sizes) (h : List Changes) (ss : List Segment) → length h ≡ 262144 → full_of pr h ss ≡ Some Commits
+commits pr h ss e = by_commits pr h ss 262144 e
 
 -- what is said by the numbers of segments, spans and passes
-abbrev by_numbers : ℕ → ℕ → ℕ → Option FullText
+abbrev by_numbers : ℕ → ℕ → ℕ → Option FullOf
 by_numbers segments spans passes =
     if nat_lt most_segments segments then Some Segments
     else if nat_lt most_spans spans then Some Spans

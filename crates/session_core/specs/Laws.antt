@@ -3,14 +3,14 @@
 use Rattle.std.specs.Prelude.{◌≡◌, ℕ, ◌+◌, ◌≤◌, Bool, true, false, List, length, Some, None}
 use Rattle.std.specs.List.{AllByRecursion}
 use Rattle.grid_core.specs.Profile.{Sizes}
-use Rattle.version_core.specs.Edits.{Changes}
-use Rattle.version_core.specs.History.{clash}
+use Rattle.version_core.specs.Edits.{Changes, after_edits}
+use Rattle.version_core.specs.History.{live, clash}
+use Rattle.book_core.specs.Commit.{full_of}
 use Rattle.script_read.specs.declared.command.Act.TheVariants.{Commit as MakeCommit}
 use Rattle.script_read.specs.declared.command.Command.{Command}
 use Rattle.script_read.specs.declared.reply.Said.{Said}
 use Rattle.script_read.specs.declared.reply.Said.TheVariants.{Commit, Stale}
 use Rattle.session_core.specs.Machine.{BasedChange, Session, editors, start}
-use Rattle.session_core.specs.Limits.{full_for}
 use Rattle.session_core.specs.Step.{outcome, replies}
 
 -- it is said that a prepared change is stale
@@ -33,5 +33,5 @@ UnclashedIsCommitted pr =
     (h : List Changes) (editor : ℕ) (s : Session) (x : BasedChange)
     → s.prepared ≡ Some x
     → clash pr h x.base x.change ≡ None
-    → full_for pr h x.change ≡ None
+    → full_of pr h (after_edits (live h) x.change.edits) ≡ None
     → (outcome pr h editor s MakeCommit).said ≡ Commit (length h + 1)

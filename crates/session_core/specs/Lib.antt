@@ -5,3 +5,4 @@ pub mod Step
 pub mod Output
 pub mod States
 pub mod Laws
+pub mod World

@@ -3,9 +3,11 @@ use Rattle.std.specs.Prelude.{◌≡◌, ℕ, ◌≤◌, List, length, fold, Non
 use Rattle.std.specs.List.{AllByRecursion}
 use Rattle.grid_core.specs.Profile.{Sizes}
 use Rattle.version_core.specs.History.{live}
+use Rattle.book_core.specs.Book.{most_commits}
+use Rattle.book_core.specs.Commit.{passed_by}
 use Rattle.script_read.specs.declared.command.Command.{Command}
 use Rattle.session_core.specs.Machine.{Session, State, editors, start}
-use Rattle.session_core.specs.Limits.{most_commits, most_serials, passed_by}
+use Rattle.session_core.specs.Limits.{most_serials}
 use Rattle.session_core.specs.Step.{step}
 
 -- a session beside a history of n changes: it holds one of the versions up to n, and what is prepared

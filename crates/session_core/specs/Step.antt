@@ -1,7 +1,6 @@
 -- One step of the machine of sessions: what a command changes, and what is said to it.
 use Rattle.std.specs.Prelude.{ℕ, ◌+◌, Bool, ◌||◌, nat_lt, nat_le, List, [], ◌∷◌, ◌++◌, length, if◌then◌else◌, Option, Some, None, is_some, unsigned_abs}
 use Rattle.grid_core.specs.declared.point.Point.{Point}
-use Rattle.grid_core.specs.declared.tile.TileId.{TileId}
 use Rattle.grid_core.specs.Vector.{point_eq}
 use Rattle.grid_core.specs.Name.{Label}
 use Rattle.grid_core.specs.Profile.{Sizes}
@@ -10,18 +9,19 @@ use Rattle.hot_tile.specs.Tile.{segment_in}
 use Rattle.version_core.specs.declared.change.Edit.{Edit}
 use Rattle.version_core.specs.declared.change.Edit.TheVariants.{Insert as PutIn, Delete as TakeOut}
 use Rattle.version_core.specs.Edits.{Changes, tiles_of_edits}
-use Rattle.version_core.specs.History.{clash}
+use Rattle.book_core.specs.declared.refusal.Refusal.{Refusal as CommitRefusal}
+use Rattle.book_core.specs.declared.refusal.Refusal.TheVariants.{Stale as IsStale, Full as IsFull}
+use Rattle.book_core.specs.Commit.{refusal_for}
 use Rattle.script_read.specs.declared.command.Act.{Act}
 use Rattle.script_read.specs.declared.command.Act.TheVariants.{Take, Insert, Delete, Reads as TellReads, Commit as MakeCommit, Drop, Ask}
 use Rattle.script_read.specs.declared.command.Command.{Command}
-use Rattle.script_read.specs.declared.reply.FullText.{FullText}
 use Rattle.script_read.specs.declared.reply.Refusal.{Refusal}
 use Rattle.script_read.specs.declared.reply.Refusal.TheVariants.{Busy, Range, Point as OnePoint, Serials, Unknown}
 use Rattle.script_read.specs.declared.reply.Reply.{Reply}
 use Rattle.script_read.specs.declared.reply.Said.{Said}
 use Rattle.script_read.specs.declared.reply.Said.TheVariants.{At, Ready, Refused, Reads, Nothing, Dropped, Commit, Stale, Full}
 use Rattle.session_core.specs.Machine.{BasedChange, Session, State, session_of, with_session, live_at}
-use Rattle.session_core.specs.Limits.{most_serials, full_for}
+use Rattle.session_core.specs.Limits.{most_serials, full_text}
 use Rattle.session_core.specs.Answer.{answer}
 
 -- what comes of an editor's act: the history, the editor's session, and what is said
@@ -52,14 +52,19 @@ unprepared s = record s { prepared = None }
 abbrev pub leaves_bound : Sizes → Point → Bool
 leaves_bound pr a = nat_lt pr.bound (unsigned_abs a.x) || nat_lt pr.bound (unsigned_abs a.y)
 
--- why an insertion is refused, in the order in which the causes are tried
+-- why an editor draws no segment between two points, by the last serial that was given, in the order
+-- in which the causes are tried
+abbrev pub draw_refusal : Sizes → ℕ → Point → Point → Option Refusal
+draw_refusal pr serial a b =
+    if leaves_bound pr a || leaves_bound pr b then Some Range
+    else if point_eq a b then Some OnePoint
+    else if nat_le most_serials serial then Some Serials
+    else None
+
+-- why an insertion is refused: a change is prepared already, or no segment is drawn
 abbrev pub insert_refusal : Sizes → Session → Point → Point → Option Refusal
 insert_refusal pr s a b =
-    if is_some s.prepared then Some Busy
-    else if leaves_bound pr a || leaves_bound pr b then Some Range
-    else if point_eq a b then Some OnePoint
-    else if nat_le most_serials s.serial then Some Serials
-    else None
+    if is_some s.prepared then Some Busy else draw_refusal pr s.serial a b
 
 -- the name under which an editor inserts next
 abbrev pub next_name : ℕ → Session → Label
@@ -106,18 +111,20 @@ committed h s x =
       said = Commit (length h + 1);
     }
 
--- a change is committed where no later one clashes with it and no limit stands against it
-abbrev pub committing :
-    List Changes → Session → Changes → Option (ℕ × TileId) → Option FullText → Outcome
-committing h s x (Some c) full = stays h (unprepared s) (Stale c.0 c.1)
-committing h s x None (Some what) = stays h (unprepared s) (Full what)
-committing h s x None None = committed h s x
+-- why a change isn't taken, as it is said
+abbrev pub refusal_said : CommitRefusal → Said
+refusal_said (IsStale by tile) = Stale by tile
+refusal_said (IsFull what) = Full (full_text what)
+
+-- a change is committed, or refused: then it is given up
+abbrev pub committing : List Changes → Session → Changes → Option CommitRefusal → Outcome
+committing h s x (Some why) = stays h (unprepared s) (refusal_said why)
+committing h s x None = committed h s x
 
 -- the prepared change, if there is one, is committed, or it is stale or the drawing is full
 abbrev pub after_commit : Sizes → List Changes → Session → Option BasedChange → Outcome
 after_commit pr h s None = stays h s Nothing
-after_commit pr h s (Some x) =
-    committing h s x.change (clash pr h x.base x.change) (full_for pr h x.change)
+after_commit pr h s (Some x) = committing h s x.change (refusal_for pr h x.base x.change)
 
 -- ---- steps
 
