@@ -1,9 +1,14 @@
 -- A scan that keeps the first of what it has come to, in an order: one more member of a list, and
 -- what is then first. The head of a rising list with one member more is that member where it is
 -- less than the head, and the head otherwise.
-use Rattle.std.proofs.Common.{◌≡◌, refl, ap, sym, ◌∙◌, Bool, true, false, cond, List, [], ◌∷◌, ◌++◌, filter}
+use Rattle.std.proofs.Common.{◌≡◌, refl, ap, ap₂, sym, ◌∙◌, arith, Bool, true, false, true≢false, cond}
+use Rattle.std.proofs.Common.{List, [], ◌∷◌, ◌++◌, filter}
 use Rattle.std.proofs.Common.{Option, Some, None, Ordering, Less, Equal, Greater, is_lt}
-use Rattle.std.specs.Prelude.{slice_get, if◌then◌else◌, int_lt, pos, ◌&&◌}
+use Rattle.std.specs.Prelude.{slice_get, if◌then◌else◌, ℤ, int_le, int_lt, pos, ◌&&◌}
+use Rattle.std.specs.Int.{int_min, int_max}
+use Rattle.std.specs.Ordering.{int_eq}
+use Rattle.std.proofs.lemmas.Int.{ints, int_min_is, int_max_is}
+use Rattle.grid_core.proofs.Signed.{from_le_true, from_lt_true, le_true}
 use Rattle.std.proofs.lemmas.List.{append-nil}
 use Rattle.std.specs.BTreeSet.{insert_key}
 use Rattle.std.specs.Ordering.{match_ordering}
@@ -11,7 +16,7 @@ use Rattle.grid_core.specs.declared.point.Point.{Point}
 use Rattle.grid_core.specs.Vector.{point_eq}
 use Rattle.grid_core.specs.Edge.{EdgeEnds, edge_cmp}
 use Rattle.grid_core.specs.RisingSet.{rising}
-use Rattle.grid_core.specs.Places.{query_point, lies_on, spans, side_of_edge, least_by, upwards_cmp, downwards_cmp}
+use Rattle.grid_core.specs.Places.{query_point, lies_on, is_between, spans, side_of_edge, least_by, upwards_cmp, downwards_cmp}
 use Rattle.grid_core.proofs.Filters.{filter_joined}
 use Rattle.grid_core.proofs.RisingSets.{rising_push}
 use Rattle.place_test.specs.Nearest.{Around, around, first_of, vertex_or, vertex_among}
@@ -100,3 +105,42 @@ around_edge vs es q f {w} {on} {above} {below} o a b e = λ i. record {
   below = one_more (λ e. spans q e && int_lt (pos 0) (side_of_edge e q)) (downwards_cmp q) es f w.below below
       (λ j. (e j).below) b i;
 }
+
+-- ---- edges wholly left or right of q
+
+no_and_right : (a b : Bool) → b ≡ false → (a && b) ≡ false
+no_and_right true b e = e
+no_and_right false b e = refl
+
+spans_between : (a b z : ℤ) → is_between a b z ≡ false → (int_le a z && int_lt z b) ≡ false
+spans_between a b z h = by (int_le a z) refl (int_lt z b) refl
+  where
+    both : int_le a z ≡ true → int_lt z b ≡ true → is_between a b z ≡ true
+    both l r =
+        let low = from_le_true a z l in
+        let high = from_lt_true z b r in
+        ap₂ (λ x y. x && y)
+        (le_true (int_min a b) z (omega (arith, ints, low, high, int_min_is a b)))
+        (le_true z (int_max a b) (omega (arith, ints, low, high, int_max_is a b)))
+
+    by : (c : Bool) → int_le a z ≡ c → (d : Bool) → int_lt z b ≡ d → (c && d) ≡ false
+    by true l true r = absurd (true≢false (sym (both l r) ∙ h))
+    by true l false r = refl
+    by false l d r = refl
+
+-- an edge that has no point in q's column is neither on q nor above or below it
+pub around_outside : (vs : List Point) (es : List EdgeEnds) (q : Point) (f : EdgeEnds) {w : Around}
+    → is_between (query_point f.a).x (query_point f.b).x q.x ≡ false → w ≡ around vs es q
+    → w ≡ around vs (es ++ f ∷ []) q
+around_outside vs es q f {w} h e =
+    let off : lies_on q f ≡ false =
+    ap (λ b. b && is_between (query_point f.a).y (query_point f.b).y q.y)
+    (no_and_right (int_eq (side_of_edge f q) (pos 0)) _ h) in
+    let apart : spans q f ≡ false = spans_between (query_point f.a).x (query_point f.b).x q.x h in
+    let on : w.on ≡ first_if (lies_on q) edge_cmp w.on f =
+    ap (λ b. if b then first_of edge_cmp w.on f else w.on) (sym off) in
+    let above : w.above ≡ first_if (λ e. spans q e && int_lt (side_of_edge e q) (pos 0)) (upwards_cmp q) w.above f =
+    ap (λ b. if b && int_lt (side_of_edge f q) (pos 0) then first_of (upwards_cmp q) w.above f else w.above) (sym apart) in
+    let below : w.below ≡ first_if (λ e. spans q e && int_lt (pos 0) (side_of_edge e q)) (downwards_cmp q) w.below f =
+    ap (λ b. if b && int_lt (pos 0) (side_of_edge f q) then first_of (downwards_cmp q) w.below f else w.below) (sym apart) in
+    around_edge vs es q f on above below e

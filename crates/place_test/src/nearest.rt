@@ -8,7 +8,7 @@ ghost use Rattle.place_test.specs.Reach.{IsEdgeWithin};
 ghost use Rattle.place_test.specs.Nearest.{first_of, vertex_or};
 
 use crate::height::{downwards, upwards};
-use crate::side::{is_at, is_left_of, is_right_of, lies_on, spans};
+use crate::side::{is_at, is_in_columns, is_left_of, is_right_of, lies_on, spans};
 use grid_core::{Edge, Place, Point};
 use std::cmp::Ordering;
 use std::marker::Model;
@@ -73,34 +73,29 @@ impl Nearest {
         }
     }
 
-    /// With one vertex more.
+    /// Takes one vertex more.
     #[inline]
-    pub fn with_vertex(&self, at: Point, h: Point) -> Nearest
+    pub fn add_vertex(&mut self, at: Point, h: Point)
         requires { IsWithin (2 ^ 30) h }
-        ensures { (vs : List Point) (es : List EdgeEnds) → self.now ≡ around vs es at
-            → result ≡ around (vs ++ h ∷ []) es at }
+        ensures { (vs : List Point) (es : List EdgeEnds) → self.old ≡ around vs es at
+            → self.new ≡ around (vs ++ h ∷ []) es at }
     {
-        Nearest {
-            vertex: first_at(at, self.vertex, h),
-            on: self.on,
-            above: self.above,
-            below: self.below,
-        }
+        keep_first_at(&mut self.vertex, at, h);
     }
 
-    /// With one edge more.
+    /// Takes one edge more. An edge that is wholly left or right of the query point costs two
+    /// comparisons.
     #[inline]
-    pub fn with_edge(&self, at: Point, e: &Edge) -> Nearest
+    pub fn add_edge(&mut self, at: Point, e: &Edge)
         requires at_within { IsWithin (2 ^ 40) at }
         requires edge_within { IsEdgeWithin (2 ^ 30) e.now }
-        ensures { (vs : List Point) (es : List EdgeEnds) → self.now ≡ around vs es at
-            → result ≡ around vs (es ++ e.now ∷ []) at }
+        ensures { (vs : List Point) (es : List EdgeEnds) → self.old ≡ around vs es at
+            → self.new ≡ around vs (es ++ e.now ∷ []) at }
     {
-        Nearest {
-            vertex: self.vertex,
-            on: least_on(at, self.on, e),
-            above: first_above(at, self.above, e),
-            below: first_below(at, self.below, e),
+        if is_in_columns(at, e) {
+            keep_least_on(&mut self.on, at, e);
+            keep_first_above(&mut self.above, at, e);
+            keep_first_below(&mut self.below, at, e);
         }
     }
 
@@ -140,61 +135,60 @@ impl Nearest {
 
 /// The vertex at the query point so far, or else this one if it is there.
 #[inline(always)]
-fn first_at(at: Point, so_far: Option<Point>, h: Point) -> Option<Point>
+fn keep_first_at(so_far: &mut Option<Point>, at: Point, h: Point)
     requires { IsWithin (2 ^ 30) h }
-    ensures { result ≡ vertex_or at so_far h }
+    ensures { so_far.new ≡ vertex_or at so_far.old h }
 {
-    match so_far {
-        Some(v) => Some(v),
-        None => if is_at(at, h) { Some(h) } else { None },
+    match *so_far {
+        Some(_) => {}
+        None => {
+            if is_at(at, h) {
+                *so_far = Some(h);
+            }
+        }
     }
 }
 
 /// The least edge that has the query point, of the one so far and this one.
 #[inline(always)]
-fn least_on(at: Point, so_far: Option<Edge>, e: &Edge) -> Option<Edge>
+fn keep_least_on(so_far: &mut Option<Edge>, at: Point, e: &Edge)
     requires at_within { IsWithin (2 ^ 40) at }
     requires edge_within { IsEdgeWithin (2 ^ 30) e.now }
-    ensures { result ≡ if lies_on at e.now then first_of edge_cmp so_far e.now else so_far }
+    ensures { so_far.new
+        ≡ if lies_on at e.now then first_of edge_cmp so_far.old e.now else so_far.old }
 {
     if lies_on(at, e) {
-        lesser(so_far, e)
-    } else {
-        so_far
+        *so_far = lesser(*so_far, e);
     }
 }
 
 /// The nearest edge above the query point, of the one so far and this one.
 #[inline(always)]
-fn first_above(at: Point, so_far: Option<Edge>, e: &Edge) -> Option<Edge>
+fn keep_first_above(so_far: &mut Option<Edge>, at: Point, e: &Edge)
     requires at_within { IsWithin (2 ^ 40) at }
-    requires so_far_within { IfSome so_far (IsEdgeWithin (2 ^ 30)) }
+    requires so_far_within { IfSome so_far.old (IsEdgeWithin (2 ^ 30)) }
     requires edge_within { IsEdgeWithin (2 ^ 30) e.now }
-    ensures value { result ≡ if spans at e.now && int_lt (side_of_edge e.now at) (pos 0)
-        then first_of (upwards_cmp at) so_far e.now else so_far }
-    ensures within { IfSome result (IsEdgeWithin (2 ^ 30)) }
+    ensures value { so_far.new ≡ if spans at e.now && int_lt (side_of_edge e.now at) (pos 0)
+        then first_of (upwards_cmp at) so_far.old e.now else so_far.old }
+    ensures within { IfSome so_far.new (IsEdgeWithin (2 ^ 30)) }
 {
     if spans(at, e) && is_right_of(at, e) {
-        lower(at, so_far, e)
-    } else {
-        so_far
+        *so_far = lower(at, *so_far, e);
     }
 }
 
 /// The nearest edge below the query point, of the one so far and this one.
 #[inline(always)]
-fn first_below(at: Point, so_far: Option<Edge>, e: &Edge) -> Option<Edge>
+fn keep_first_below(so_far: &mut Option<Edge>, at: Point, e: &Edge)
     requires at_within { IsWithin (2 ^ 40) at }
-    requires so_far_within { IfSome so_far (IsEdgeWithin (2 ^ 30)) }
+    requires so_far_within { IfSome so_far.old (IsEdgeWithin (2 ^ 30)) }
     requires edge_within { IsEdgeWithin (2 ^ 30) e.now }
-    ensures value { result ≡ if spans at e.now && int_lt (pos 0) (side_of_edge e.now at)
-        then first_of (downwards_cmp at) so_far e.now else so_far }
-    ensures within { IfSome result (IsEdgeWithin (2 ^ 30)) }
+    ensures value { so_far.new ≡ if spans at e.now && int_lt (pos 0) (side_of_edge e.now at)
+        then first_of (downwards_cmp at) so_far.old e.now else so_far.old }
+    ensures within { IfSome so_far.new (IsEdgeWithin (2 ^ 30)) }
 {
     if spans(at, e) && is_left_of(at, e) {
-        higher(at, so_far, e)
-    } else {
-        so_far
+        *so_far = higher(at, *so_far, e);
     }
 }
 

@@ -41,7 +41,7 @@ fn is_in_box(at: Point, e: &Edge) -> bool
 
 /// Whether the query point's column is between those of the edge's ends, or is one of the two.
 #[inline(always)]
-fn is_in_columns(at: Point, e: &Edge) -> bool
+pub(crate) fn is_in_columns(at: Point, e: &Edge) -> bool
     requires { IsEdgeWithin (2 ^ 30) e.now }
     ensures { result ≡ is_between (query_point e.now.a).x (query_point e.now.b).x at.x }
 {
