@@ -24,10 +24,10 @@ pub fn locate(picture: &Rounding, at: Point) -> Place
 {
     let mut nearest = Nearest::of_nothing();
     for vertex in picture.vertices() {
-        nearest = nearest.with_vertex(at, vertex.at);
+        nearest.add_vertex(at, vertex.at);
     }
     for bundled in picture.edges() {
-        nearest = nearest.with_edge(at, &bundled.edge);
+        nearest.add_edge(at, &bundled.edge);
     }
     nearest.place()
 }

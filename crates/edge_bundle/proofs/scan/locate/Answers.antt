@@ -16,7 +16,7 @@ pub loop-vertex-preserved : goal.loop-vertex-preserved
 loop-vertex-preserved c =
     let vs = c.vertices-vertex-items.result.now in
     let i = c.loop-vertex.vertex-index in
-    c.with_vertex-nearest.ensures (map (λ v. v.at) (take i vs)) [] c.loop-vertex.invariant
+    c.add_vertex.ensures (map (λ v. v.at) (take i vs)) [] c.loop-vertex.invariant
     ∙ ap (λ hs. around hs [] c.args.at) (sym (map_more (λ v. v.at) vs i unread c.loop-vertex-test.true))
 
 pub loop-bundled-init : goal.loop-bundled-init
@@ -31,7 +31,7 @@ loop-bundled-preserved c =
     let bs = c.edges-bundled-items.result.now in
     let i = c.loop-bundled.bundled-index in
     let vs = vertices_of c.args.picture.now in
-    c.with_edge-nearest.ensures vs (map (λ b. b.edge) (take i bs)) c.loop-bundled.invariant
+    c.add_edge.ensures vs (map (λ b. b.edge) (take i bs)) c.loop-bundled.invariant
     ∙ ap (λ es. around vs es c.args.at)
     (ap (λ (b : BundledEdge). map (λ b. b.edge) (take i bs) ++ b.edge ∷ []) (c.bundled.view_is ∙ c.bundled-item.is)
     ∙ sym (map_more (λ b. b.edge) bs i c.bundled-item.result c.loop-bundled-test.true))
