@@ -1,13 +1,13 @@
 //! The cell around a query point, from the vertices of its strip.
 
-ghost use Rattle.std.specs.Prelude.{◌≡◌, ◌≤◌, ◌^◌, pos, ◌<ℤ◌, ◌*ℤ◌, ◌+ℤ◌, ◌&&◌, int_le, int_lt};
+ghost use Rattle.std.specs.Prelude.{◌≡◌, ◌≤◌, ◌^◌, pos, ◌<ℤ◌, ◌*ℤ◌, ◌+ℤ◌, ◌&&◌, int_lt};
 ghost use Rattle.std.specs.Prelude.{All, IfSome, unsigned_abs};
 ghost use Rattle.std.specs.Int.{int_div_euclid};
 ghost use Rattle.grid_core.specs.Vector.{IsWithin};
 ghost use Rattle.grid_core.specs.Places.{strip_of, cell_between, is_at_most, is_at_least};
 ghost use Rattle.place_test.specs.Reach.{IsEdgeWithin};
 ghost use Rattle.cell_map.specs.Strips.{strip_at};
-ghost use Rattle.cell_map.specs.Found.{left_with, right_with, narrowed};
+ghost use Rattle.cell_map.specs.Found.{narrowed};
 
 use grid_core::{Cell, Edge, Point};
 use place_test::{is_at_least, is_at_most, query_point};
@@ -28,24 +28,28 @@ pub(crate) fn cell(vertices: &[Point], at: Point, above: Option<Edge>, below: Op
         right: right_wall(number),
     };
     for h in vertices {
-        cell = narrowed(&cell, at, *h);
+        narrow(&mut cell, at, *h);
     }
     cell
 }
 
-/// The cell with one vertex more.
+/// Takes one vertex more. A vertex that is no nearer than what bounds the cell already costs two
+/// comparisons.
 #[inline(always)]
-fn narrowed(cell: &Cell, at: Point, h: Point) -> Cell
+fn narrow(cell: &mut Cell, at: Point, h: Point)
     requires vertex_within { IsWithin (2 ^ 30) h }
-    requires above_within { IfSome cell.now.above (IsEdgeWithin (2 ^ 30)) }
-    requires below_within { IfSome cell.now.below (IsEdgeWithin (2 ^ 30)) }
-    ensures { result ≡ narrowed at cell.now h }
+    requires above_within { IfSome cell.old.above (IsEdgeWithin (2 ^ 30)) }
+    requires below_within { IfSome cell.old.below (IsEdgeWithin (2 ^ 30)) }
+    ensures { cell.new ≡ narrowed at cell.old h }
 {
-    Cell {
-        above: cell.above,
-        below: cell.below,
-        left: left_with(&cell.above, &cell.below, at, cell.left, h),
-        right: right_with(&cell.above, &cell.below, at, cell.right, h),
+    if is_right_of(h, at) {
+        if ends(cell, h) {
+            cell.right = h.x;
+        }
+    } else {
+        if begins(cell, h) {
+            cell.left = h.x;
+        }
     }
 }
 
@@ -97,34 +101,29 @@ fn right_wall(number: i64) -> i64
     256 * (number + 1)
 }
 
-/// How far the cell reaches to the left with one vertex more.
+/// Whether a vertex right of the query point ends the cell, sooner than it ended so far.
 #[inline(always)]
-fn left_with(above: &Option<Edge>, below: &Option<Edge>, at: Point, left: i64, h: Point) -> i64
+fn ends(cell: &Cell, h: Point) -> bool
     requires vertex_within { IsWithin (2 ^ 30) h }
-    requires above_within { IfSome above.now (IsEdgeWithin (2 ^ 30)) }
-    requires below_within { IfSome below.now (IsEdgeWithin (2 ^ 30)) }
-    ensures { result ≡ left_with above.now below.now at left h }
+    requires above_within { IfSome cell.now.above (IsEdgeWithin (2 ^ 30)) }
+    requires below_within { IfSome cell.now.below (IsEdgeWithin (2 ^ 30)) }
+    ensures { result ≡ (int_lt h.x cell.now.right
+        && (is_at_most cell.now.above h && is_at_least cell.now.below h)) }
 {
-    if is_between(above, below, h) && is_not_right_of(h, at) {
-        left.max(h.x)
-    } else {
-        left
-    }
+    h.x < cell.right && is_between(&cell.above, &cell.below, h)
 }
 
-/// How far the cell reaches to the right with one vertex more.
+/// Whether a vertex left of the query point, or in its column, begins the cell, later than it began so
+/// far.
 #[inline(always)]
-fn right_with(above: &Option<Edge>, below: &Option<Edge>, at: Point, right: i64, h: Point) -> i64
+fn begins(cell: &Cell, h: Point) -> bool
     requires vertex_within { IsWithin (2 ^ 30) h }
-    requires above_within { IfSome above.now (IsEdgeWithin (2 ^ 30)) }
-    requires below_within { IfSome below.now (IsEdgeWithin (2 ^ 30)) }
-    ensures { result ≡ right_with above.now below.now at right h }
+    requires above_within { IfSome cell.now.above (IsEdgeWithin (2 ^ 30)) }
+    requires below_within { IfSome cell.now.below (IsEdgeWithin (2 ^ 30)) }
+    ensures { result ≡ (int_lt cell.now.left h.x
+        && (is_at_most cell.now.above h && is_at_least cell.now.below h)) }
 {
-    if is_between(above, below, h) && is_right_of(h, at) {
-        right.min(h.x)
-    } else {
-        right
-    }
+    cell.left < h.x && is_between(&cell.above, &cell.below, h)
 }
 
 /// Whether the vertex lies on or between the two edges.
@@ -136,15 +135,6 @@ fn is_between(above: &Option<Edge>, below: &Option<Edge>, h: Point) -> bool
     ensures { result ≡ (is_at_most above.now h && is_at_least below.now h) }
 {
     is_at_most(*above, h) && is_at_least(*below, h)
-}
-
-/// Whether the vertex's column is the query point's, or left of it.
-#[inline(always)]
-fn is_not_right_of(h: Point, at: Point) -> bool
-    requires { IsWithin (2 ^ 30) h }
-    ensures { result ≡ int_le (pos 256 *ℤ h.x) at.x }
-{
-    query_point(h).x <= at.x
 }
 
 /// Whether the vertex's column is right of the query point's.

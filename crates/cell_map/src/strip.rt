@@ -172,10 +172,10 @@ fn scan(vertices: &[Point], edges: &[Edge], at: Point) -> Nearest
 {
     let mut nearest = Nearest::of_nothing();
     for h in vertices {
-        nearest = nearest.with_vertex(at, *h);
+        nearest.add_vertex(at, *h);
     }
     for e in edges {
-        nearest = nearest.with_edge(at, e);
+        nearest.add_edge(at, e);
     }
     nearest
 }

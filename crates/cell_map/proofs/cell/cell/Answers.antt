@@ -9,13 +9,13 @@ use Rattle.cell_map.specs.Found.{narrowed}
 use Rattle.cell_map.proofs.CellColumns.{cell_more}
 use Rattle.cell_map.proofs.cell.cell.Goals as goal
 
-pub narrowed-cell-requires-clause-above_within : goal.narrowed-cell-requires-clause-above_within
-narrowed-cell-requires-clause-above_within c =
+pub narrow-requires-clause-above_within : goal.narrow-requires-clause-above_within
+narrow-requires-clause-above_within c =
     subst (λ o. IfSome o (IsEdgeWithin (2 ^ 30))) (sym (ap (λ (d : Cell). d.above) c.loop-h.invariant))
     c.requires.above_within
 
-pub narrowed-cell-requires-clause-below_within : goal.narrowed-cell-requires-clause-below_within
-narrowed-cell-requires-clause-below_within c =
+pub narrow-requires-clause-below_within : goal.narrow-requires-clause-below_within
+narrow-requires-clause-below_within c =
     subst (λ o. IfSome o (IsEdgeWithin (2 ^ 30))) (sym (ap (λ (d : Cell). d.below) c.loop-h.invariant))
     c.requires.below_within
 
@@ -24,7 +24,7 @@ loop-h-preserved c =
     let vs = c.args.vertices.now in
     let i = c.loop-h.h-index in
     let h = get_or vs i origin in
-    c.narrowed-cell.ensures
+    c.narrow.ensures
     ∙ ap (λ (d : Cell). narrowed c.args.at d h) c.loop-h.invariant
     ∙ cell_more c.args.at c.args.above c.args.below (take i vs) h
     ∙ ap (λ hs. cell_between 256 hs c.args.at c.args.above c.args.below)

@@ -12,7 +12,7 @@ pub loop-h-preserved : goal.loop-h-preserved
 loop-h-preserved c =
     let vs = c.args.vertices.now in
     let i = c.loop-h.h-index in
-    c.with_vertex-nearest.ensures (take i vs) [] c.loop-h.invariant
+    c.add_vertex.ensures (take i vs) [] c.loop-h.invariant
     ∙ ap (λ hs. around hs [] c.args.at) (sym (take_more vs i origin c.loop-h-test.true))
 
 pub loop-e-init : goal.loop-e-init
@@ -25,7 +25,7 @@ loop-e-preserved c =
     let es = c.args.edges.now in
     let i = c.loop-e.e-index in
     let vs = c.args.vertices.now in
-    c.with_edge-nearest.ensures vs (take i es) c.loop-e.invariant
+    c.add_edge.ensures vs (take i es) c.loop-e.invariant
     ∙ ap (λ fs. around vs fs c.args.at)
     (ap (λ (e : EdgeEnds). take i es ++ e ∷ []) c.e-item.is
     ∙ sym (take_more es i c.e-item.result c.loop-e-test.true))
