@@ -141,6 +141,9 @@ impl Nearest {
     }
 
     fn take(&mut self, q: Point, e: &Edge) {
+        if q.x < 256 * e.a.x || 256 * e.b.x < q.x {
+            return;
+        }
         if lies_on(q, e) && self.on.is_none_or(|f| *e < f) {
             self.on = Some(*e);
         }
@@ -205,12 +208,12 @@ fn find(strips: &BTreeMap<i64, Strip>, q: Point) -> (Nearest, i64) {
     let (mut left, mut right) = (256 * number, 256 * (number + 1));
     if near.is_between() {
         for h in vertices {
-            if bounds(&near, *h) {
-                if 256 * h.x <= q.x {
-                    left = left.max(h.x);
-                } else {
-                    right = right.min(h.x);
+            if q.x < 256 * h.x {
+                if h.x < right && bounds(&near, *h) {
+                    right = h.x;
                 }
+            } else if left < h.x && bounds(&near, *h) {
+                left = h.x;
             }
         }
     }

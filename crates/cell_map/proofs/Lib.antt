@@ -3,3 +3,5 @@ pub mod CellColumns
 pub mod Filling
 pub mod Exchanging
 pub mod FirstNames
+pub mod Refreshing
+pub mod EdgeOrder

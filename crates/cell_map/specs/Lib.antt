@@ -1,3 +1,4 @@
 pub mod Strips
 pub mod Found
 pub mod Exchange
+pub mod EdgeOrder

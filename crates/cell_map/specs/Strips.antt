@@ -1,7 +1,7 @@
 -- Vertical strips of a graph. Strip k has the columns from 256 k up to, and without, 256 (k + 1); its
 -- walls are the columns 256 k and 256 (k + 1).
-use Rattle.std.specs.Prelude.{◌≡◌, ℕ, ℤ, pos, int_le, Bool, ◌&&◌, if◌then◌else◌}
-use Rattle.std.specs.Prelude.{List, [], ◌∷◌, ◌++◌, filter, unwrap_or, All}
+use Rattle.std.specs.Prelude.{◌≡◌, ◌↔◌, ℕ, ℤ, pos, int_le, Bool, false, IsTrue, ◌&&◌, if◌then◌else◌}
+use Rattle.std.specs.Prelude.{List, [], ◌∷◌, ◌++◌, filter, unwrap_or, All, Contains}
 use Rattle.std.specs.Int.{int_div_euclid}
 use Rattle.std.specs.List.{list_any}
 use Rattle.std.specs.Ordering.{int_cmp, int_eq}
@@ -76,3 +76,15 @@ HaveSame old new = (k : ℤ) → strip_in new k ≡ strip_in old k
 abbrev pub AreRefreshed : Graph → List ℤ → Strips → Strips → Type 0
 AreRefreshed g given old new =
     (k : ℤ) → strip_in new k ≡ (if list_any (λ j. int_eq j k) given then strip_of_graph g k else strip_in old k)
+
+-- two graphs differ in the strips with given numbers alone: an edge that meets another strip, and a
+-- vertex that lies in another, is in both or in neither
+pub record DifferIn (given : List ℤ) (g h : Graph) : Type 0 where
+  pub edges : (k : ℤ) (e : EdgeEnds)
+      → list_any (λ j. int_eq j k) given ≡ false
+      → IsTrue (meets_strip k e)
+      → Contains g.edges e ↔ Contains h.edges e
+  pub vertices : (k : ℤ) (v : Point)
+      → list_any (λ j. int_eq j k) given ≡ false
+      → IsTrue (lies_in_strip k v)
+      → Contains g.vertices v ↔ Contains h.vertices v

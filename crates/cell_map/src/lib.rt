@@ -27,10 +27,12 @@ mod cell_map;
 mod exchange;
 mod fill;
 mod found;
+mod laws;
 mod strip;
 
 pub use cell_map::CellMap;
 pub use found::Found;
+pub use laws::{lower_stays_lower, refreshed_are_built};
 
 #[cfg(test)]
 mod tests;
