@@ -3,3 +3,4 @@ pub mod Clashes
 pub mod Growing
 pub mod Apart
 pub mod Refusals
+pub mod Waiting

@@ -3,3 +3,4 @@ pub mod Stamps
 pub mod Commit
 pub mod Committed
 pub mod Laws
+pub mod Waiting
