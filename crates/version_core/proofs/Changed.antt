@@ -26,7 +26,7 @@ use Rattle.radix_map.specs.Entries.{Rises}
 use Rattle.version_core.specs.declared.entry.Entry.{Entry}
 use Rattle.version_core.specs.declared.entry.Entry.TheVariants.{Live, Touched}
 use Rattle.version_core.specs.Entries.{IsKeyed, stamp_in, stamps_in}
-use Rattle.version_core.specs.Keys.{tile_key}
+use Rattle.tile_keys.specs.Keys.{tile_key}
 use Rattle.version_core.specs.Version.{stamp_of, stamped_after, tiles_stamped_after}
 use Rattle.version_core.proofs.LiveEntries.{AreKeyed}
 

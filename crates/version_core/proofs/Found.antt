@@ -29,11 +29,12 @@ use Rattle.version_core.specs.declared.entry.Entry.TheVariants.{Live, Touched}
 use Rattle.version_core.specs.declared.entry.TouchedTile.{TouchedTile}
 use Rattle.version_core.specs.Entries.{IsKeyed, live_in, content_found, touched_found, live_found, stamps_in}
 use Rattle.version_core.specs.Entries as entries
-use Rattle.version_core.specs.Keys.{tile_key, name_key, first_name_key}
+use Rattle.tile_keys.specs.Keys.{tile_key, name_key, first_name_key}
 use Rattle.version_core.specs.Stands.{tile_with, content_of}
 use Rattle.version_core.specs.Version.{IsVersion, stamp_of}
-use Rattle.version_core.proofs.LiveEntries.{AreKeyed, same_name, name_from}
-use Rattle.version_core.proofs.TouchedEntries.{tile_below, stamp_found, stamp_at, stamp_out_of_reach}
+use Rattle.tile_keys.proofs.ToldApart.{same_name, name_from, tile_below}
+use Rattle.version_core.proofs.LiveEntries.{AreKeyed}
+use Rattle.version_core.proofs.TouchedEntries.{stamp_found, stamp_at, stamp_out_of_reach}
 
 -- ---- tiles
 

@@ -7,7 +7,6 @@ pub mod EditCounts
 pub mod Found
 pub mod Gains
 pub mod Histories
-pub mod KeyLaws
 pub mod LiveEntries
 pub mod MapEdits
 pub mod NextVersion

@@ -2,14 +2,14 @@
 -- keys, and all keys of tiles lie below those of names. So by induction on the entries: a segment that
 -- is set under the key of its name stands among the live segments in its place, one that is removed
 -- is gone from there, and a tile leaves them as they are.
-use Rattle.std.proofs.Common.{◌≡◌, refl, ap, sym, subst, ◌∙◌, ℕ, ◌+◌, ◌*◌, ◌^◌, ◌<◌, ◌≤◌, arith}
+use Rattle.std.proofs.Common.{◌≡◌, refl, ap, sym, subst, ◌∙◌, ℕ, ◌+◌, ◌<◌, ◌≤◌, arith}
 use Rattle.std.proofs.Common.{true, false, cond, not, List, [], ◌∷◌, ◌++◌, filter, nat_cmp, is_eq, is_lt}
 use Rattle.std.specs.declared.cmp.Ordering.{Ordering}
 use Rattle.std.specs.declared.cmp.Ordering.TheVariants.{Less, Equal, Greater}
 use Rattle.std.specs.Cmp.{ranks}
 use Rattle.std.proofs.lemmas.Cmp.{tied_itself}
 use Rattle.std.specs.List.{AllByRecursion, cons_option}
-use Rattle.std.specs.Ordering.{MatchOrdering, match_ordering, ordering_then, ordering_reverse}
+use Rattle.std.specs.Ordering.{MatchOrdering, match_ordering, ordering_reverse}
 use Rattle.grid_core.specs.Name.{Label, IsLabel, label_cmp, label_eq}
 use Rattle.grid_core.specs.LiveList.{with_segment, without_name}
 use Rattle.grid_core.specs.Segment.{Segment}
@@ -20,40 +20,8 @@ use Rattle.version_core.specs.declared.entry.Entry.{Entry}
 use Rattle.version_core.specs.declared.entry.Entry.TheVariants.{Live, Touched}
 use Rattle.version_core.specs.declared.entry.TouchedTile.{TouchedTile}
 use Rattle.version_core.specs.Entries.{IsKeyed, segment_in, live_in}
-use Rattle.version_core.specs.Keys.{name_key, first_name_key}
-
--- ---- keys of names
-
--- a lesser key, a lesser name
-lesser_number : (oe os : Ordering) (a b c d : ℕ) → MatchOrdering oe (a < c) (a ≡ c) (c < a)
-    → MatchOrdering os (b < d) (b ≡ d) (d < b) → b < 2 ^ 16 → d < 2 ^ 16
-    → 3 * 2 ^ 30 + (a * 2 ^ 16 + b) < 3 * 2 ^ 30 + (c * 2 ^ 16 + d) → ordering_then oe os ≡ Less
-lesser_number Less os a b c d he hs f g h = refl
-lesser_number Equal Less a b c d he hs f g h = refl
-lesser_number Equal Equal a b c d he hs f g h = absurd (omega (arith, he, hs, h))
-lesser_number Equal Greater a b c d he hs f g h = absurd (omega (arith, he, hs, h))
-lesser_number Greater os a b c d he hs f g h = absurd (omega (arith, he, f, g, h))
-
-pub lesser_name : (m n : Label) → IsLabel m → IsLabel n → name_key m < name_key n → label_cmp m n ≡ Less
-lesser_name m n is is2 h =
-    lesser_number (nat_cmp m.editor n.editor) (nat_cmp m.serial n.serial) m.editor m.serial n.editor n.serial
-    (ranks m.editor n.editor) (ranks m.serial n.serial) is.last_serial is2.last_serial h
-
--- one key, one name
-same_numbers : (a b c d : ℕ) → b < 2 ^ 16 → d < 2 ^ 16
-    → 3 * 2 ^ 30 + (a * 2 ^ 16 + b) ≡ 3 * 2 ^ 30 + (c * 2 ^ 16 + d) → (a ≡ c) × (b ≡ d)
-same_numbers a b c d f g h = (omega (arith, f, g, h), omega (arith, f, g, h))
-
-pub same_name : (m n : Label) → IsLabel m → IsLabel n → name_key m ≡ name_key n → m ≡ n
-same_name m n is is2 h =
-    let parts = same_numbers m.editor m.serial n.editor n.serial is.last_serial is2.last_serial h in
-    λ i. record { editor = parts.0 i; serial = parts.1 i }
-
-pub name_from : (n : Label) → first_name_key ≤ name_key n
-name_from n = by (n.editor * 2 ^ 16 + n.serial)
-  where
-    by : (k : ℕ) → 3 * 2 ^ 30 ≤ 3 * 2 ^ 30 + k
-    by k = omega arith
+use Rattle.tile_keys.specs.Keys.{name_key, first_name_key}
+use Rattle.tile_keys.proofs.ToldApart.{lesser_name, same_name, name_from}
 
 -- ---- entries behind a key
 

@@ -2,7 +2,7 @@
 -- take out segments by name: the first leave the live list, and the second all tiles. A tile that the
 -- change doesn't touch is far from each of its edits, so it has what it had; and a tile out of reach
 -- is in no map, and is touched by no change.
-use Rattle.std.proofs.Common.{◌≡◌, refl, ap, sym, subst, ◌∙◌, ℕ, ◌+◌, ◌*◌, ◌^◌, ◌<◌, ◌≤◌, ◌⊎◌, inl, inr, arith}
+use Rattle.std.proofs.Common.{◌≡◌, refl, ap, sym, subst, ◌∙◌, ℕ, ◌+◌, ◌<◌, ◌≤◌, ◌⊎◌, inl, inr, arith}
 use Rattle.std.proofs.Common.{Bool, true, false, true≢false, List, [], ◌∷◌, map, length, Contains}
 use Rattle.std.specs.Prelude.{flat_map, unsigned_abs, Option, Some}
 use Rattle.std.specs.declared.cmp.Ordering.{Ordering}
@@ -14,7 +14,6 @@ use Rattle.std.proofs.lemmas.List.Elements.{Contains-append_cases}
 use Rattle.std.proofs.lemmas.List.Sums.{fold-append}
 use Rattle.grid_core.specs.declared.tile.TileId.{TileId}
 use Rattle.grid_core.specs.LiveList.{IsLiveList}
-use Rattle.grid_core.specs.Name.{Label, IsLabel}
 use Rattle.grid_core.specs.Profile.{Sizes, IsProfile}
 use Rattle.grid_core.specs.Tiles.{tiles}
 use Rattle.grid_core.proofs.ListMembers.{contains_first, contains_later}
@@ -33,28 +32,20 @@ use Rattle.version_core.specs.declared.change.Edit.TheVariants.{Insert, Delete}
 use Rattle.version_core.specs.Edits.{after_edits, edited_segment, tiles_of_edits}
 use Rattle.version_core.specs.Entries.{content_at, content_found, live_in, stamps_in, put_tile, put_name, map_edits, after_map_edits}
 use Rattle.version_core.specs.History.{touches}
-use Rattle.version_core.specs.Keys.{tile_key, name_key}
+use Rattle.tile_keys.specs.Keys.{tile_key, name_key}
 use Rattle.version_core.specs.Laws.{AreSegments}
 use Rattle.version_core.specs.Renewal.{Renewed, Renews}
 use Rattle.version_core.specs.Stands.{content_of, tile_with, spans_of}
 use Rattle.version_core.specs.Version.{IsVersion, most_segments, MayFollow, IsNext, version_of, stamp_of}
+use Rattle.tile_keys.proofs.ToldApart.{name_fits, tile_then_name}
 use Rattle.version_core.proofs.Apart.{live_after, near_after_far}
-use Rattle.version_core.proofs.LiveEntries.{live_with, live_without, name_from}
+use Rattle.version_core.proofs.LiveEntries.{live_with, live_without}
 use Rattle.version_core.proofs.Rebasing.{edits_covered, far_from}
 use Rattle.version_core.proofs.TouchedEntries.{AreEntries, AreInReach, entries_with, entries_without, value_set_above, value_removed_above}
-use Rattle.version_core.proofs.TouchedEntries.{tile_below, tiles_are_entries, tiles_leave_live, touched_by, put_here, put_elsewhere}
+use Rattle.version_core.proofs.TouchedEntries.{tiles_are_entries, tiles_leave_live, touched_by, put_here, put_elsewhere}
 use Rattle.version_core.proofs.TouchedEntries.{stamp_at, stamp_found, stamp_out_of_reach}
 
 -- ---- segments put in and taken out by name
-
-name_fits : (n : Label) → IsLabel n → name_key n < keys_end
-name_fits n is = by n.editor n.serial is.last_editor is.last_serial
-  where
-    by : (a b : ℕ) → a ≤ 64 → b < 2 ^ 16 → 3 * 2 ^ 30 + (a * 2 ^ 16 + b) < 2 ^ 32
-    by a b h k = omega (arith, h, k)
-
-tile_then_name : (t : TileId) (n : Label) → IsTileInReach t → tile_key t < name_key n
-tile_then_name t n is = let low = tile_below t is in let high = name_from n in omega (arith, low, high)
 
 names_are_entries : (bound : ℕ) (es : List (ℕ × Entry)) (edits : List Edit) → AreSegments bound edits → AreEntries es
     → AreEntries (after_map_edits es (map put_name edits))

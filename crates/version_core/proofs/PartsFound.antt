@@ -12,7 +12,7 @@ use Rattle.hot_tile.specs.Tile.{TileContent}
 use Rattle.radix_map.specs.Entries.{value_at}
 use Rattle.version_core.specs.declared.entry.Entry.{Entry}
 use Rattle.version_core.specs.Entries.{live_in, content_found}
-use Rattle.version_core.specs.Keys.{tile_key}
+use Rattle.tile_keys.specs.Keys.{tile_key}
 use Rattle.version_core.specs.Parts.{with_key, part_under, copied_part}
 use Rattle.version_core.specs.Stands.{content_of}
 use Rattle.version_core.specs.Version.{IsVersion}

@@ -1,8 +1,8 @@
 -- What stands in a version's map under the keys of tiles, and that its entries stay keyed and rise
 -- after the edits of a change. No two tiles in reach have one key, and no name has a tile's.
-use Rattle.std.proofs.Common.{◌≡◌, refl, ap, sym, subst, ◌∙◌, ℕ, ◌*◌, ◌^◌, ◌<◌, ◌≤◌, ◌⊎◌, inl, inr, arith}
+use Rattle.std.proofs.Common.{◌≡◌, refl, ap, sym, subst, ◌∙◌, ℕ, ◌*◌, ◌^◌, ◌<◌, ◌⊎◌, inl, inr, arith}
 use Rattle.std.proofs.Common.{Bool, true, false, cond, true≢false, List, [], ◌∷◌, map, filter, nat_cmp, is_eq, Contains}
-use Rattle.std.specs.Prelude.{ℤ, pos, ◌+ℤ◌, unsigned_abs, Option, Some, None, slice_get, unwrap_or}
+use Rattle.std.specs.Prelude.{Option, Some, None, slice_get, unwrap_or}
 use Rattle.std.specs.declared.cmp.Ordering.{Ordering}
 use Rattle.std.specs.declared.cmp.Ordering.TheVariants.{Less, Equal, Greater}
 use Rattle.std.specs.Cmp.{ranks}
@@ -14,48 +14,19 @@ use Rattle.grid_core.specs.declared.tile.TileId.{TileId}
 use Rattle.grid_core.specs.Tiles.{tile_cmp, tile_eq}
 use Rattle.grid_core.proofs.Comparisons.{is_equal}
 use Rattle.grid_core.proofs.ListMembers.{contains_first, contains_later, contains_cases}
-use Rattle.grid_core.proofs.Signed.{signed}
 use Rattle.grid_core.proofs.TileOrder.{tile_total, tile_exact}
 use Rattle.radix_map.specs.Entries.{value_at, with_key, without_key, Rises, keys_end}
 use Rattle.radix_map.proofs.Laws.{with_rises, without_rises, value_with, value_without}
 use Rattle.radix_map.proofs.Values.{same_key, key_equal}
 use Rattle.tile_law.specs.Laws.{IsTileInReach}
+use Rattle.tile_keys.proofs.ToldApart.{same_tile, tile_below, name_from}
 use Rattle.hot_tile.specs.Tile.{TileContent}
 use Rattle.version_core.specs.declared.entry.Entry.{Entry}
 use Rattle.version_core.specs.declared.entry.Entry.TheVariants.{Live, Touched}
 use Rattle.version_core.specs.Entries.{IsKeyed, live_in, stamp_in, stamps_in, put_tile, after_map_edits}
-use Rattle.version_core.specs.Keys.{tile_key, name_key, raised_index, first_name_key}
+use Rattle.tile_keys.specs.Keys.{tile_key, name_key}
 use Rattle.version_core.specs.Version.{stamp_of}
-use Rattle.version_core.proofs.KeyLaws.{top_below, told_apart}
-use Rattle.version_core.proofs.LiveEntries.{AreKeyed, name_from, live_touched}
-
--- ---- keys of tiles
-
-raised_below : (i : ℤ) → unsigned_abs i ≤ 16384 → unsigned_abs (i +ℤ pos 16384) < 3 * 4 ^ 7
-raised_below i h = omega (arith, signed, h)
-
-raised_few : (i : ℤ) → unsigned_abs i ≤ 16384 → unsigned_abs (i +ℤ pos 16384) < 4 ^ 8
-raised_few i h = omega (arith, signed, h)
-
-same_index : (i j : ℤ) → unsigned_abs i ≤ 16384 → unsigned_abs j ≤ 16384
-    → unsigned_abs (i +ℤ pos 16384) ≡ unsigned_abs (j +ℤ pos 16384) → i ≡ j
-same_index i j h k e = omega (arith, signed, h, k, e)
-
--- no name has a tile's key
-pub tile_below : (t : TileId) → IsTileInReach t → tile_key t < first_name_key
-tile_below t is = by (tile_key t) (top_below 7 (raised_index t.i) (raised_index t.j) (raised_below t.i is.column) (raised_below t.j is.row))
-  where
-    by : (k : ℕ) → k < 11 * 16 ^ 7 → k < 3 * 2 ^ 30
-    by k h = omega (arith, h)
-
--- one key, one tile
-pub same_tile : (t u : TileId) → IsTileInReach t → IsTileInReach u → tile_key t ≡ tile_key u → t ≡ u
-same_tile t u is is2 e =
-    let parts = told_apart 8 (raised_index t.i) (raised_index t.j) (raised_index u.i) (raised_index u.j)
-    (raised_few t.i is.column) (raised_few t.j is.row) (raised_few u.i is2.column) (raised_few u.j is2.row) e in
-    let column = same_index t.i u.i is.column is2.column parts.0 in
-    let row = same_index t.j u.j is.row is2.row parts.1 in
-    λ i. record { i = column i; j = row i }
+use Rattle.version_core.proofs.LiveEntries.{AreKeyed, live_touched}
 
 -- ---- entries after one edit
 

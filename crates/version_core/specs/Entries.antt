@@ -12,7 +12,7 @@ use Rattle.version_core.specs.declared.entry.Entry.TheVariants.{Live, Touched}
 use Rattle.version_core.specs.declared.entry.TouchedTile.{TouchedTile}
 use Rattle.version_core.specs.declared.change.Edit.{Edit}
 use Rattle.version_core.specs.declared.change.Edit.TheVariants.{Insert, Delete}
-use Rattle.version_core.specs.Keys.{tile_key, name_key}
+use Rattle.tile_keys.specs.Keys.{tile_key, name_key}
 
 -- the live segment of an entry, none of a tile's
 abbrev pub segment_in : Entry → Option Segment

@@ -2,7 +2,6 @@ pub mod Edits
 pub mod History
 pub mod Stands
 pub mod Laws
-pub mod Keys
 pub mod Entries
 pub mod Version
 pub mod Looks

@@ -6,7 +6,7 @@ use Rattle.hot_tile.specs.Tile.{TileContent}
 use Rattle.radix_map.specs.Entries.{value_at}
 use Rattle.version_core.specs.declared.entry.Entry.{Entry}
 use Rattle.version_core.specs.Entries.{content_found}
-use Rattle.version_core.specs.Keys.{tile_key}
+use Rattle.tile_keys.specs.Keys.{tile_key}
 
 -- a tile with its key
 abbrev pub with_key : TileId → ℕ × TileId

@@ -15,7 +15,6 @@
 
 mod change;
 mod entry;
-mod keys;
 mod laws;
 mod looked;
 mod lookup;

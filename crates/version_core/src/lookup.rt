@@ -10,16 +10,16 @@ ghost use Rattle.radix_map.specs.Entries.{value_at, entries_from};
 ghost use Rattle.version_core.specs.declared.entry.Entry.{Entry};
 ghost use Rattle.version_core.specs.Entries.{touched_found, live_found, content_found};
 ghost use Rattle.version_core.specs.Entries.{live_in, stamps_in};
-ghost use Rattle.version_core.specs.Keys.{tile_key, name_key, first_name_key};
+ghost use Rattle.tile_keys.specs.Keys.{tile_key, name_key, first_name_key};
 ghost use Rattle.version_core.specs.Parts.{with_key, part_under, copied_part};
 ghost use Rattle.version_core.specs.Version.{stamped_after};
 
 use crate::entry::{Entry, TouchedTile};
-use crate::keys::{FIRST_NAME_KEY, name_key, tile_key};
 use grid_core::{Memory, Name, TileId, Ur};
 use hot_tile::Tile;
 use radix_map::{FindAll, Map};
 use std::alloc::Global;
+use tile_keys::{FIRST_NAME_KEY, name_key, tile_key};
 
 /// What stands under the tile's key. `None` where no change touched it, and so for each tile out of
 /// reach.

@@ -8,13 +8,13 @@ ghost use Rattle.version_core.specs.Stamps.{stamped, stamped_edit};
 
 use crate::change::{Change, Edit};
 use crate::entry::{Entry, TouchedTile};
-use crate::keys::{name_key, tile_key};
 use grid_core::{Memory, TileId};
 use hot_tile::Tile;
 use radix_map::Map;
 use std::alloc::Global;
 use std::marker::Model;
 use std::sync::Arc;
+use tile_keys::{name_key, tile_key};
 
 /// One edit of a version's map.
 type MapEdit = (u32, Option<Arc<Entry>>);

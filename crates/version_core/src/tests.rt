@@ -1,7 +1,6 @@
 //! Worked rows, that calls succeed with ample memory, and what an edit of a map leaves to others.
 
 use crate::entry::Entry;
-use crate::keys::{name_key, tile_key};
 use crate::{Change, Edit, Look, NewTiles, Renewal, RouteFault, Version};
 use grid_core::{Memory, Name, Point, Profile, TileId, Ur};
 use hot_tile::Tile;
@@ -37,28 +36,6 @@ fn two_edits(rt: HostRuntime) -> Result<(), Fail> {
     assert!(rt; both.editor() == 3 && both.edits() == [first, second].as_slice());
     assert!(rt; alone.edits() == [first].as_slice());
     Ok(())
-}
-
-/// A column and a row, raised by 16,384, have eight digits in base 4 each: the first digit of a key in
-/// base 16 is 5 for both digits 1, and the last is 4 times the column's and the row's.
-#[test]
-fn keys_go_by_blocks_of_tiles(rt: HostRuntime) {
-    assert_eq!(rt; tile_key(TileId { i: 0, j: 0 }), 0x5000_0000);
-    assert_eq!(rt; tile_key(TileId { i: 0, j: 1 }), 0x5000_0001);
-    assert_eq!(rt; tile_key(TileId { i: 1, j: 0 }), 0x5000_0004);
-    assert_eq!(rt; tile_key(TileId { i: 3, j: 3 }), 0x5000_000F);
-    assert_eq!(rt; tile_key(TileId { i: 4, j: 0 }), 0x5000_0040);
-    assert_eq!(rt; tile_key(TileId { i: -1, j: -1 }), 0x0FFF_FFFF);
-    assert_eq!(rt;
-        tile_key(TileId {
-            i: -16384,
-            j: -16384
-        }),
-        0
-    );
-    assert_eq!(rt; tile_key(TileId { i: 16384, j: 16384 }), 0xA000_0000);
-    assert_eq!(rt; name_key(name(&rt, 1, 1)), 0xC001_0001);
-    assert_eq!(rt; name_key(name(&rt, 64, 65535)), 0xC040_FFFF);
 }
 
 #[test]
