@@ -1,4 +1,2 @@
-pub mod Digits
-pub mod Pieces
+pub mod Lines
 pub mod Runs
-pub mod States

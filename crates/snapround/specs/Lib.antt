@@ -1,4 +1,1 @@
-pub mod Script
-pub mod Reply
-pub mod Machine
 pub mod Play

@@ -4,9 +4,10 @@ use Rattle.std.specs.Prelude.{◌≡◌, ◌≢◌, ℕ, ◌+◌, ◌<◌, ◌�
 use Rattle.std.specs.Io.KnownBytes.{Appends, Consumes, IsAtEnd}
 use Rattle.io_ports.specs.Causes.{Rose}
 use Rattle.io_ports.specs.Transfers.{TakesAtMost, TakesExactly, WritesPrefix}
+use Rattle.grid_core.specs.Profile.{Sizes}
 use Rattle.snapround.specs.declared.play.Status.{Status}
 use Rattle.snapround.specs.declared.play.Status.TheVariants.{Done, SomeBad, BadWords, ReadFault, WriteFault, TooLong, Memory}
-use Rattle.snapround.specs.Machine.{output, has_bad_line}
+use Rattle.session_core.specs.Output.{output, has_bad_line}
 
 -- the number that the program ends with
 abbrev pub code_of : Status → ℕ
@@ -22,6 +23,10 @@ code_of Memory = 6
 abbrev pub is_play : List (List ℕ) → Bool
 is_play (word ∷ []) = bytes_eq word (codes "play")
 is_play _ = false
+
+-- the sizes of the drawing: coordinates up to 1,048,576 in size, and tiles of 256 by 256 pixels
+abbrev pub sizes : Sizes
+sizes = record { bound = 1048576; side = 256 }
 
 -- the greatest input, in bytes
 abbrev pub most_bytes : ℕ
@@ -65,7 +70,7 @@ pub record Played (status : ℕ) (old new : Outside) : Type 0 where
       → length bytes ≤ most_bytes)
   -- 0 and 1: exactly the replies to all lines were written, and the sink is shut
   pub replied : IfSome old.left (λ bytes. status ≤ 1
-      → Appends old.written new.written (output bytes))
+      → Appends old.written new.written (output sizes bytes))
   pub shut : status ≤ 1 → new.shut ≡ true
   -- 3 to 6: a sink that was open is still open
   pub left_open : 2 < status → old.shut ≡ false → new.shut ≡ false
@@ -83,4 +88,4 @@ pub record Played (status : ℕ) (old new : Outside) : Type 0 where
       → (status ≡ 5) ⊎ (status ≡ 6))
   -- 4 and 6: a prefix of the replies was written
   pub part : IfSome old.left (λ bytes. (status ≡ 4) ⊎ (status ≡ 6)
-      → WritesPrefix old.written new.written (output bytes))
+      → WritesPrefix old.written new.written (output sizes bytes))

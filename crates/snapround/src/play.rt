@@ -1,16 +1,15 @@
-//! The running call: the whole input is read, and then answered line after line.
+//! The running call: the whole input is read, and then its lines are answered.
 
-ghost use Rattle.std.specs.Prelude.{◌≡◌, ◌↔◌, ◌≤◌, ◌⊎◌, true, false, map, string_bytes};
+ghost use Rattle.std.specs.Prelude.{◌≡◌, ◌↔◌, ◌⊎◌, true, false, map, string_bytes};
 ghost use Rattle.std.specs.Prelude.{IfOk, OnOk, OnErr, IsErrOf};
 ghost use Rattle.std.specs.Io.KnownBytes.{Appends};
 ghost use Rattle.io_ports.specs.Causes.{Rose};
 ghost use Rattle.io_ports.specs.Transfers.{WritesPrefix};
-ghost use Rattle.snapround.specs.Machine.{output, has_bad_line};
-ghost use Rattle.snapround.specs.Play.{code_of, is_play, outside, Played};
+ghost use Rattle.session_core.specs.Output.{output, has_bad_line};
+ghost use Rattle.snapround.specs.Play.{code_of, is_play, outside, sizes, Played};
 
-use crate::machine::Machine;
-use crate::script::next_line;
-use io_ports::{ReadFault, Sink, SinkFault, Source, read_all, write_whole};
+use crate::answer::answer_all;
+use io_ports::{ReadFault, Sink, SinkFault, Source, read_all};
 use std::alloc::Global;
 
 /// The greatest input, in bytes.
@@ -118,9 +117,9 @@ fn run<S: Source, K: Sink>(alloc: Global, source: &mut S, sink: &mut K) -> Statu
 /// Writes the replies to all lines of the input, and shuts the sink. Whether some line is bad.
 fn respond<K: Sink>(alloc: Global, input: &[u8], sink: &mut K) -> Result<bool, SinkFault>
     ensures whole { OnOk result
-        (Appends (K.written sink.old) (K.written sink.new) (output input.now)) }
+        (Appends (K.written sink.old) (K.written sink.new) (output sizes input.now)) }
     ensures part { OnErr result
-        (WritesPrefix (K.written sink.old) (K.written sink.new) (output input.now)) }
+        (WritesPrefix (K.written sink.old) (K.written sink.new) (output sizes input.now)) }
     ensures bad { IfOk result (λ bad. bad ≡ has_bad_line input.now) }
     ensures failed { IsErrOf result SinkFault.Failed
         → Rose (K.faults sink.old) (K.faults sink.new) }
@@ -130,37 +129,5 @@ fn respond<K: Sink>(alloc: Global, input: &[u8], sink: &mut K) -> Result<bool, S
 {
     let some_bad = answer_all(alloc, input, sink)?;
     sink.close()?;
-    Ok(some_bad)
-}
-
-/// Writes the replies to all lines of the input. Whether some line is bad.
-fn answer_all<K: Sink>(alloc: Global, input: &[u8], sink: &mut K) -> Result<bool, SinkFault>
-    ensures whole { OnOk result
-        (Appends (K.written sink.old) (K.written sink.new) (output input.now)) }
-    ensures part { OnErr result
-        (WritesPrefix (K.written sink.old) (K.written sink.new) (output input.now)) }
-    ensures bad { IfOk result (λ bad. bad ≡ has_bad_line input.now) }
-    ensures failed { IsErrOf result SinkFault.Failed
-        → Rose (K.faults sink.old) (K.faults sink.new) }
-    ensures no_fault { IsErrOf result SinkFault.Failed ⊎ (K.faults sink.new ≡ K.faults sink.old) }
-    ensures later { K.faults sink.old ≤ K.faults sink.new }
-    ensures left_open { K.shut sink.old ≡ false → K.shut sink.new ≡ false }
-{
-    let mut machine = Machine::new(alloc);
-    let mut reply = Vec::new(alloc);
-    let mut rest = input;
-    let mut number = 0;
-    let mut some_bad = false;
-    while let Some((line, after)) = next_line(rest) {
-        number += 1;
-        reply.clear();
-        let is_bad = match machine.answer(line, number, &mut reply) {
-            Ok(is_bad) => is_bad,
-            Err(_) => return Err(SinkFault::Memory),
-        };
-        write_whole(sink, &reply)?;
-        some_bad |= is_bad;
-        rest = after;
-    }
     Ok(some_bad)
 }
