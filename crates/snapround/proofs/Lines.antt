@@ -1,10 +1,8 @@
 -- A line that is a command asks for something that is served: what a line's fields ask for is looked through a test of
 -- that, before anything comes of it.
-use Rattle.std.proofs.Common.{◌≡◌, ◌<◌, ℕ, Bool, true, false, nat_lt, List, [], ◌∷◌, length, Option, Some, None, option_map, option_and_then, if◌then◌else◌, refl, ◌∙◌, sym, ap}
-use Rattle.seg_text.specs.Fields.{fields_of}
-use Rattle.seg_text.specs.Numbers.{editor_of}
-use Rattle.script_read.specs.Command.{act_of, is_served, served}
-use Rattle.script_read.specs.Lines.{is_comment, command_from, line_from, line_of, without_return}
+use Rattle.std.proofs.Common.{◌≡◌, ℕ, Bool, true, false, nat_lt, List, [], ◌∷◌, length, Option, Some, None, option_map, option_and_then, if◌then◌else◌, refl, ◌∙◌, sym, subst}
+use Rattle.script_read.specs.Command.{is_served, served, IsFair}
+use Rattle.script_read.specs.Lines.{is_comment, command_from, line_from, line_of, IsFairLine}
 use Rattle.script_read.specs.declared.command.Act.{Act}
 use Rattle.script_read.specs.declared.command.Command.{Command}
 use Rattle.script_read.specs.declared.line.Line.{Line}
@@ -32,7 +30,7 @@ from_fields : (first : List ℕ) (further : List (List ℕ))
     → AsksServed (elim (command_from first further) [ None ↦ Bad | Some command ↦ Order command ])
 unfolding command_from
 from_fields first [] = tt
-from_fields first (verb ∷ fields) = asked (act_of verb fields) (editor_of first)
+from_fields first (verb ∷ fields) = asked _ _
 
 unless_comment : (b : Bool) (line : Line) → AsksServed line → AsksServed (if b then Quiet else line)
 unless_comment true line h = tt
@@ -49,10 +47,14 @@ unless_long false line h = h
 
 pub asks_served : (bytes : List ℕ) → AsksServed (line_of bytes)
 unfolding line_of
-asks_served bytes = unless_long (nat_lt 4096 (length bytes)) _ (from_line (fields_of (without_return bytes)))
+asks_served bytes = unless_long (nat_lt 4096 (length bytes)) _ (from_line _)
 
 pub order_is_served : (bytes : List ℕ) (line : Line) (command : Command)
     → line ≡ line_of bytes
     → line ≡ Order command
     → is_served command.act ≡ true
 order_is_served bytes line command e order = subst AsksServed (sym e ∙ order) (asks_served bytes)
+
+pub order_is_fair : (line : Line) (command : Command) → IsFairLine line → line ≡ Order command → IsFair command
+unfolding IsFairLine
+order_is_fair line command fair order = subst IsFairLine order fair
