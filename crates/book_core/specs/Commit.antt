@@ -57,13 +57,17 @@ refusal_for pr h base x = refusal_by (clash pr h base x) (full_of pr h (after_ed
 abbrev pub refusal_of : BookState → PreparedChange → Option Refusal
 refusal_of b x = refusal_for b.version.profile b.history x.base x.change
 
+-- the history has none of the names that the change inserts
+abbrev pub InsertsNew : List Changes → Changes → Type 0
+InsertsNew h x = (n : Label) → Contains (inserted_names x.edits) n → ¬ Contains (given_names h) n
+
 -- what is asked of a prepared change: it has the book's profile, it was prepared after the first
 -- changes of the history, and the names that it inserts aren't in the history
 pub record MayCommit (b : BookState) (x : PreparedChange) : Type 0 where
   pub profile : x.profile ≡ b.version.profile
   pub based : x.base ≤ length b.history
   pub stands : Stands x (live (take x.base b.history))
-  pub new : (n : Label) → Contains (inserted_names x.change.edits) n → ¬ Contains (given_names b.history) n
+  pub new : InsertsNew b.history x.change
 
 -- the book took the change: the history grew by it, and the version is the next one
 pub record Took (old : BookState) (x : Changes) (new : BookState) : Type 0 where
