@@ -86,7 +86,7 @@ goes_on {input} {w} {number} {from} {some} {old} {mid} new w' end next text bad 
     let bads : has_bad_line input ≡ (some || bad || some_bad_of left) =
     h.bad
     ∙ ap (λ ls. some || some_bad_of ls) numbered
-    ∙ ap (λ b. some || b || some_bad_of left) (sym bad_line)
+    ∙ ap (λ b. some || (b || some_bad_of left)) (sym bad_line)
     ∙ sym (or_assoc some bad (some_bad_of left)) in
     record {
       sized = profile ∙ h.sized;
@@ -126,10 +126,6 @@ stops {input} {w} {number} {from} {some} {old} {new} h =
     let done = h.replied.0 in
     let front : WritesPrefix old new done = (length done, subst (Appends old new) (sym (take_all (length done) done (omega arith))) h.replied.1) in
     subst (WritesPrefix old new) (sym h.replied.2) (prefix_longer old new done (texts sizes w.state (lines_left input number from)) front)
-
--- nothing was written at all
-pub none_written : (k : Option (List ℕ)) (bs : List ℕ) → WritesPrefix k k bs
-none_written k bs = (0, Appends-nil k)
 
 none_left : (st : State) (n : ℕ) → (texts sizes st (numbered_from n (lines_of [])) ≡ []) × (some_bad_of (numbered_from n (lines_of [])) ≡ false)
 unfolding texts lines_of
