@@ -1,11 +1,11 @@
 -- Prepared changes that wait while a book takes others. The first changes of a history are the first of
 -- a longer one too, so what stood after them stands after them; and names that were new are new, if the
 -- change that was taken gives none of them.
-use Rattle.std.proofs.Common.{◌≡◌, refl, sym, ap, subst, ◌∙◌, ℕ, ◌≤◌, arith, inl, inr, List, [], ◌∷◌, ◌++◌, length, length-append, take, Contains}
-use Rattle.std.specs.Prelude.{All}
-use Rattle.std.specs.List.{AllByRecursion}
+use Rattle.std.proofs.Common.{◌≡◌, refl, sym, ap, subst, ◌∙◌, ℕ, suc, ◌+◌, ◌<◌, ◌≤◌, arith, inl, inr, Bool, false, List, [], ◌∷◌, ◌++◌, length, length-append, take, drop, get_or, Contains}
+use Rattle.std.specs.Prelude.{All, IsTrue, not}
+use Rattle.std.specs.List.{AllByRecursion, remove}
 use Rattle.std.proofs.lemmas.List.{take-append-le, take_all}
-use Rattle.std.proofs.lemmas.List.Elements.{Contains-append_cases}
+use Rattle.std.proofs.lemmas.List.Elements.{Contains-append_cases, recursion_from_All, All-append, All-take, All-drop, All-more}
 use Rattle.std.proofs.lemmas.Grind.{flat_map-append}
 use Rattle.grid_core.specs.Name.{Label}
 use Rattle.grid_core.proofs.ListMembers.{contains_cases}
@@ -113,14 +113,28 @@ pub brand_stays : (old new : BookState) (x : Changes) → IsSettled old x new �
 brand_stays old new x (inl took) = took.version.brand
 brand_stays old new x (inr same) = ap (λ b. b.version.brand) same
 
+-- all but one of a list are as all
+pub all_without : {X : Type 0} (P : X → Type 0) (xs : List X) (i : ℕ) → All P xs → All P (remove xs i)
+all_without P xs i all = All-append P (take i xs) (drop (suc i) xs) (All-take P i xs all) (All-drop P (suc i) xs all)
+
 -- ---- histories that were walked
 
+-- one change more that doesn't insert the name
+pub none_more : (h : List Changes) (n : Label) (i : ℕ) (d : Changes) → i < length h
+    → All (λ x. ¬ Contains (inserted_names x.edits) n) (take i h) → (given : Bool)
+    → (IsTrue (not given) → ¬ Contains (inserted_names ((get_or h i d).edits)) n) → given ≡ false
+    → All (λ x. ¬ Contains (inserted_names x.edits) n) (take (i + 1) h)
+none_more h n i d fits none given unless no =
+    All-more (λ x. ¬ Contains (inserted_names x.edits) n) h i d fits none (unless (ap not no))
+
 -- a name that none of the changes inserts isn't in the history
-pub none_given : (h : List Changes) (n : Label) → AllByRecursion (λ x. ¬ Contains (inserted_names x.edits) n) h
-    → ¬ Contains (given_names h) n
-none_given [] n none c = omega (arith, c.1)
-none_given (x ∷ h) n none c =
-    elim (Contains-append_cases (inserted_names x.edits) (given_names h) n c) [
-      | inl first ↦ none.0 first
-      | inr later ↦ none_given h n none.1 later
-    ]
+pub none_given : (h : List Changes) (n : Label) → All (λ x. ¬ Contains (inserted_names x.edits) n) h → ¬ Contains (given_names h) n
+none_given h n none = by h (recursion_from_All (λ x. ¬ Contains (inserted_names x.edits) n) h none)
+  where
+    by : (h : List Changes) → AllByRecursion (λ x. ¬ Contains (inserted_names x.edits) n) h → ¬ Contains (given_names h) n
+    by [] none c = omega (arith, c.1)
+    by (x ∷ h) none c =
+        elim (Contains-append_cases (inserted_names x.edits) (given_names h) n c) [
+          | inl first ↦ none.0 first
+          | inr later ↦ by h none.1 later
+        ]

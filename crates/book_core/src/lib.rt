@@ -13,6 +13,8 @@ mod book;
 mod commit;
 mod laws;
 mod refusal;
+#[cfg(test)]
+mod tests;
 
 pub use book::Book;
 pub use commit::{Committed, Settled};
