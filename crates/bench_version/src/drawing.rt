@@ -3,15 +3,15 @@
 ghost use Rattle.std.specs.Prelude.{◌≡◌};
 ghost use Rattle.std.specs.Arc.{arc_value};
 
-use grid_core::{Memory, Name, Point, Profile, Ur};
+use grid_core::{Memory, Name, Point, Profile, TileId, Ur};
 use hot_tile::Scratch;
 use seg_edit::{
-    PrepareFault, Prepared, apply, apply_in_place, prepare_delete_in, prepare_insert_in,
+    PrepareFault, Prepared, apply_beside, apply_in_place, prepare_delete_in, prepare_insert_in,
 };
 use std::alloc::Global;
 use std::mem;
 use std::sync::Arc;
-use version_core::{Looked, Version};
+use version_core::{Looked, RouteFault, Version};
 
 /// The editor of all changes.
 const EDITOR: u8 = 1;
@@ -66,6 +66,13 @@ impl Drawing {
     /// Lets go of all versions but the newest.
     pub(crate) fn let_go(&mut self) {
         self.older.clear();
+    }
+
+    /// A number made of all that the newest version tells.
+    pub(crate) fn checksum(&mut self) -> Result<u64, Memory> {
+        let routes = routes_sum(&self.version, &mut self.looked)?;
+        self.looked.clear();
+        Ok(mixed(mixed(numbers_sum(&self.version), stamps_sum(&self.version)), routes))
     }
 
     /// Puts in the segment of a serial and these ends. `false` where that can't be.
@@ -133,11 +140,68 @@ impl Drawing {
                 None => return Ok(false),
             },
             Held::All => {
-                let next = Arc::new(self.alloc, apply(&self.version, &prepared)?)?;
+                let next = apply_beside(&self.version, &mut prepared)?;
+                let next = Arc::new(self.alloc, next)?;
                 let before = mem::replace(&mut self.version, next);
                 self.older.push(before)?;
             }
         }
         Ok(true)
     }
+}
+
+/// A number made of the version's numbers.
+fn numbers_sum(version: &Version) -> u64 {
+    let numbers = mixed(u64::from(version.number()), version.count() as u64);
+    mixed(mixed(numbers, version.spans()), version.passes())
+}
+
+/// A number made of the stamps of the tiles in a square of 4,096 and around it.
+fn stamps_sum(version: &Version) -> u64 {
+    let mut sum = 0;
+    for i in -1..17 {
+        for j in -1..17 {
+            sum = mixed(sum, u64::from(version.stamp(TileId { i, j })));
+        }
+    }
+    sum
+}
+
+/// A number made of the routes of the first sixteen serials.
+fn routes_sum(version: &Version, looked: &mut Looked) -> Result<u64, Memory>
+    requires { version.now.brand ≡ looked.old.brand }
+    ensures { looked.new.brand ≡ looked.old.brand }
+{
+    let mut sum = 0;
+    for serial in 1..17 {
+        if let Some(name) = Name::new(EDITOR, serial) {
+            sum = mixed(sum, route_sum(version, name, looked)?);
+        }
+    }
+    Ok(sum)
+}
+
+/// A number made of the route of a name, 0 where it isn't live.
+fn route_sum(version: &Version, name: Name, looked: &mut Looked) -> Result<u64, Memory>
+    requires { version.now.brand ≡ looked.old.brand }
+    ensures { looked.new.brand ≡ looked.old.brand }
+{
+    match version.route(name, looked) {
+        Ok(route) => Ok(points_sum(&route)),
+        Err(RouteFault::Unknown) => Ok(0),
+        Err(RouteFault::Memory) => Err(Memory),
+    }
+}
+
+fn points_sum(points: &[Point]) -> u64 {
+    let mut sum = 1;
+    for p in points {
+        sum = mixed(mixed(sum, p.x.unsigned_abs()), p.y.unsigned_abs());
+    }
+    sum
+}
+
+/// A number made of one and the next.
+fn mixed(sum: u64, next: u64) -> u64 {
+    sum.wrapping_mul(48_271).wrapping_add(next)
 }

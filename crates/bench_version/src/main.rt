@@ -18,8 +18,10 @@ fn main(rt: HostRuntime) -> ExitCode {
     let Some((rounds, work)) = words(&rt) else {
         return ExitCode::from(2);
     };
-    let Ok(Some(done)) = run(rt.alloc(), rounds, work) else {
-        return ExitCode::from(3);
+    let done = match run(rt.alloc(), rounds, work) {
+        Ok(Some(done)) => done,
+        Ok(None) => return ExitCode::from(3),
+        Err(_) => return ExitCode::from(6),
     };
     match println!(rt;
         "rounds {rounds} changes {} live {} spans {} passes {}",

@@ -3,7 +3,7 @@
 use crate::drawing::{Drawing, Held};
 use crate::draws::Draws;
 use crate::serials::Serials;
-use grid_core::Memory;
+use grid_core::{Memory, Point};
 use std::alloc::Global;
 
 /// How many short segments a drawing has.
@@ -24,6 +24,9 @@ pub(crate) enum Work {
     Edit(Held),
     /// 250 long segments are put into a drawing one by one.
     Long(Held),
+    /// Eight short segments are put into a drawing, and then a ninth. Where memory is wanting for
+    /// that, the drawing is seen to be as before, and the ninth is put in once more.
+    Ninth,
 }
 
 impl Work {
@@ -35,6 +38,7 @@ impl Work {
             "edit_held" => Some(Work::Edit(Held::All)),
             "long" => Some(Work::Long(Held::Newest)),
             "long_held" => Some(Work::Long(Held::All)),
+            "ninth" => Some(Work::Ninth),
             _ => None,
         }
     }
@@ -55,6 +59,7 @@ pub(crate) fn run(alloc: Global, rounds: u16, work: Work) -> Result<Option<Done>
         Work::Build(held) => build(alloc, rounds, held),
         Work::Edit(held) => edit(alloc, rounds, held),
         Work::Long(held) => build_long(alloc, rounds, held),
+        Work::Ninth => ninth(alloc),
     }
 }
 
@@ -106,6 +111,35 @@ fn edit(alloc: Global, rounds: u16, held: Held) -> Result<Option<Done>, Memory> 
         drawing.let_go();
     }
     Ok(Some(counts(&drawing)))
+}
+
+fn ninth(alloc: Global) -> Result<Option<Done>, Memory> {
+    let mut drawing = Drawing::open(alloc)?;
+    let mut draws = Draws::open();
+    for serial in 1..9 {
+        if !drawing.insert(serial, draws.near(), Held::Newest)? {
+            return Ok(None);
+        }
+    }
+    if !put_ninth(&mut drawing, draws.near())? {
+        return Ok(None);
+    }
+    Ok(Some(counts(&drawing)))
+}
+
+/// Puts a ninth segment in, once more where memory was wanting. `false` where it can't be put in, or
+/// where want of memory left anything of it.
+fn put_ninth(drawing: &mut Drawing, ends: (Point, Point)) -> Result<bool, Memory> {
+    let before = drawing.checksum()?;
+    match drawing.insert(9, ends, Held::Newest) {
+        Ok(done) => Ok(done),
+        Err(_) => {
+            if drawing.checksum()? != before {
+                return Ok(false);
+            }
+            drawing.insert(9, ends, Held::Newest)
+        }
+    }
 }
 
 /// Puts short segments in. `false` where one can't be put in.

@@ -12,8 +12,8 @@ apply_in_place-requires-clause-few c =
     (ap length (sym (c.edits.ensures ∙ ap (λ x. x.edits) c.change.ensures.value)) ∙ search rules)
     (subst (λ q. length q.live < 4096) c.deref.ensures (omega (arith, c.count.ensures.value, c.if-count-ge-MOST_LIVE.false)))
 
-pub apply-requires-clause-few : goal.apply-requires-clause-few
-apply-requires-clause-few c =
+pub apply_beside-requires-clause-few : goal.apply_beside-requires-clause-few
+apply_beside-requires-clause-few c =
     few_follow (arc_value c.args.self.now.version) c.deref-in-All.result.now c.args.prepared (search) c.requires.profile
     (subst (λ q. IsLiveList q.profile.bound q.live) c.deref.ensures c.count.ensures.kept)
     c.requires.stands c.change.ensures.within
