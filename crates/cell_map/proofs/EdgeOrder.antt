@@ -2,19 +2,21 @@
 -- over the second. Let it not be: between the two columns, where the difference of the heights is
 -- divided as they are above and below, the edges have a common point. It lies right of the first column
 -- and not right of the second, so that it is no end of either; but edges have no other point in common.
-use Rattle.std.proofs.Common.{◌≡◌, refl, sym, ap, subst, ◌∙◌, arith, ⊎_elim, [], ◌∷◌, List, Contains, Less}
+use Rattle.std.proofs.Common.{◌≡◌, refl, sym, ap, subst, ◌∙◌, arith, ⊎_elim, [], ◌∷◌, List, Contains}
+use Rattle.std.proofs.Common.{Ordering, Less, Equal, Greater}
 use Rattle.std.specs.Prelude.{ℤ, pos, ◌+ℤ◌, ◌-ℤ◌, ◌*ℤ◌, ◌<ℤ◌, ◌≤ℤ◌, ◌⊎◌, unsigned_abs, IsTrue, int_le, int_lt}
+use Rattle.std.specs.Ordering.{ordering_then}
 use Rattle.std.specs.Cmp.{int_cmp_is}
 use Rattle.std.proofs.lemmas.Cmp.{int_ranked}
 use Rattle.grid_core.specs.declared.point.Point.{Point}
 use Rattle.grid_core.specs.Edge.{EdgeEnds}
 use Rattle.grid_core.specs.Crossing.{RationalPoint}
 use Rattle.grid_core.specs.Planar.{point_of_edge, IsOnePoint, IsOnEdge, IsCommonEnd, IsPlanar}
-use Rattle.grid_core.specs.Places.{spans, height_cmp}
-use Rattle.grid_core.proofs.Signed.{signed, from_le_true, from_lt_true}
-use Rattle.grid_core.proofs.Ring.{int_mul_pos, int_mul_nonneg, int_same_of_mul, int_lt_or_le}
+use Rattle.grid_core.specs.Places.{spans, height_cmp, slope_cmp, side_of_edge}
+use Rattle.grid_core.proofs.Signed.{signed, from_le_true, from_lt_true, lt_true}
+use Rattle.grid_core.proofs.Ring.{int_mul_pos, int_mul_nonneg, int_same_of_mul, int_lt_of_mul, int_lt_or_le}
 use Rattle.grid_core.proofs.Polynomial.{V, K, ◌⊕◌, ◌⊖◌, ◌⊗◌, same_polynomial}
-use Rattle.cell_map.specs.EdgeOrder.{LowerStaysLower}
+use Rattle.cell_map.specs.EdgeOrder.{LowerStaysLower, AboveIsAboveThoseBefore}
 use Rattle.cell_map.proofs.StripOfPoint.{and_left, and_right}
 
 abbrev width : EdgeEnds → ℤ
@@ -249,3 +251,72 @@ lower_stays_lower {es} {vs} planar e f q r of_e of_f e_q f_q e_r f_r left h =
     let one : q.x ≡ r.x = omega (arith, signed, left, back) in
     is_lower e f r (subst (λ x. pos 0 <ℤ over e f x) one (lower_is e f q h)))
     (int_lt_or_le q.x r.x)
+
+-- ---- points above edges
+
+-- over e f is linear in the column
+over_moved : (e f : EdgeEnds) (x y : ℤ)
+    → over e f y
+    ≡ over e f x +ℤ ((f.b.y -ℤ f.a.y) *ℤ width e -ℤ (e.b.y -ℤ e.a.y) *ℤ width f) *ℤ (y -ℤ x)
+over_moved e f x y =
+    same_polynomial
+    (e.a.x ∷ e.a.y ∷ (e.b.x -ℤ e.a.x) ∷ (e.b.y -ℤ e.a.y) ∷ f.a.x ∷ f.a.y ∷ (f.b.x -ℤ f.a.x) ∷ (f.b.y -ℤ f.a.y) ∷ x ∷ y ∷ [])
+    (((K (pos 256) ⊗ V 5) ⊗ V 6 ⊕ V 7 ⊗ (V 9 ⊖ K (pos 256) ⊗ V 4)) ⊗ V 2
+    ⊖ ((K (pos 256) ⊗ V 1) ⊗ V 2 ⊕ V 3 ⊗ (V 9 ⊖ K (pos 256) ⊗ V 0)) ⊗ V 6)
+    ((((K (pos 256) ⊗ V 5) ⊗ V 6 ⊕ V 7 ⊗ (V 8 ⊖ K (pos 256) ⊗ V 4)) ⊗ V 2
+    ⊖ ((K (pos 256) ⊗ V 1) ⊗ V 2 ⊕ V 3 ⊗ (V 8 ⊖ K (pos 256) ⊗ V 0)) ⊗ V 6)
+    ⊕ (V 7 ⊗ V 2 ⊖ V 3 ⊗ V 6) ⊗ (V 9 ⊖ V 8)) refl
+
+side_is : (e : EdgeEnds) (q : Point) → side_of_edge e q ≡ width e *ℤ q.y -ℤ height e q.x
+side_is e q =
+    same_polynomial (e.a.x ∷ e.a.y ∷ (e.b.x -ℤ e.a.x) ∷ (e.b.y -ℤ e.a.y) ∷ q.x ∷ q.y ∷ [])
+    (V 2 ⊗ (V 5 ⊖ K (pos 256) ⊗ V 1) ⊖ V 3 ⊗ (V 4 ⊖ K (pos 256) ⊗ V 0))
+    (V 2 ⊗ V 5 ⊖ ((K (pos 256) ⊗ V 1) ⊗ V 2 ⊕ V 3 ⊗ (V 4 ⊖ K (pos 256) ⊗ V 0))) refl
+
+-- a point above an edge is above each edge that isn't higher; p and q are the heights over the widths w and v
+above_lower : (w v p q y : ℤ) → pos 0 <ℤ w → pos 0 <ℤ v → pos 0 ≤ℤ (q *ℤ w -ℤ p *ℤ v) → pos 0 <ℤ (v *ℤ y -ℤ q)
+    → pos 0 <ℤ (w *ℤ y -ℤ p)
+above_lower w v p q y some_w some_v up above =
+    let gap = int_mul_pos (v *ℤ y -ℤ q) w above some_w in
+    let parts : v *ℤ (w *ℤ y -ℤ p) ≡ (v *ℤ y -ℤ q) *ℤ w +ℤ (q *ℤ w -ℤ p *ℤ v) =
+    same_polynomial (w ∷ v ∷ p ∷ q ∷ y ∷ []) (V 1 ⊗ (V 0 ⊗ V 4 ⊖ V 2))
+    ((V 1 ⊗ V 4 ⊖ V 3) ⊗ V 0 ⊕ (V 3 ⊗ V 0 ⊖ V 2 ⊗ V 1)) refl in
+    let none : v *ℤ pos 0 ≡ pos 0 = same_polynomial (v ∷ []) (V 0 ⊗ K (pos 0)) (K (pos 0)) refl in
+    int_lt_of_mul v (pos 0) (w *ℤ y -ℤ p) some_v (omega (arith, signed, gap, parts, none, up))
+
+wide_by : (e : EdgeEnds) (x y : ℤ) → Has e x y → x ≤ℤ y → pos 0 <ℤ width e
+wide_by e x y has left = omega (arith, signed, has.from, has.to, left)
+
+module _ {es : List EdgeEnds} {vs : List Point} (planar : IsPlanar es vs) where
+  -- what comes before isn't higher further right
+  not_higher : (e f : EdgeEnds) (q r : Point) → Contains es e → Contains es f → Has e q.x r.x → Has f q.x r.x → q.x ≤ℤ r.x
+      → (o : Ordering) → height_cmp q e f ≡ o → ordering_then o (slope_cmp e f) ≡ Less → pos 0 ≤ℤ over e f r.x
+  not_higher e f q r of_e of_f has_e has_f left Less is h =
+      ⊎_elim
+      (λ (before : q.x <ℤ r.x).
+      omega (arith, signed, stays_over planar e f q.x r.x of_e of_f has_e has_f before (lower_is e f q is)))
+      (λ (back : r.x ≤ℤ q.x).
+      let one : q.x ≡ r.x = omega (arith, signed, left, back) in
+      let here = subst (λ x. pos 0 <ℤ over e f x) one (lower_is e f q is) in
+      omega (arith, signed, here))
+      (int_lt_or_le q.x r.x)
+  not_higher e f q r of_e of_f has_e has_f left Equal is h =
+      let level : height e q.x *ℤ width f ≡ height f q.x *ℤ width e =
+      int_ranked (height e q.x *ℤ width f) (height f q.x *ℤ width e) Equal (sym is) in
+      let steeper : ((e.b.y -ℤ e.a.y) *ℤ width f) <ℤ ((f.b.y -ℤ f.a.y) *ℤ width e) =
+      int_ranked ((e.b.y -ℤ e.a.y) *ℤ width f) ((f.b.y -ℤ f.a.y) *ℤ width e) Less (sym h) in
+      let gained = int_mul_nonneg ((f.b.y -ℤ f.a.y) *ℤ width e -ℤ (e.b.y -ℤ e.a.y) *ℤ width f) (r.x -ℤ q.x)
+      (omega (arith, signed, steeper)) (omega (arith, signed, left)) in
+      omega (arith, signed, over_moved e f q.x r.x, level, gained)
+  not_higher e f q r of_e of_f has_e has_f left Greater is h = absurd (cc h)
+
+  pub above_those_before : AboveIsAboveThoseBefore es
+  above_those_before e f q r of_e of_f e_q f_q e_r f_r left before above =
+      let has_e = has_columns e q r e_q e_r in
+      let has_f = has_columns f q r f_q f_r in
+      let over_f : pos 0 <ℤ (width f *ℤ r.y -ℤ height f r.x) =
+      subst (λ z. pos 0 <ℤ z) (side_is f r) (from_lt_true (pos 0) (side_of_edge f r) above) in
+      let over_e = above_lower (width e) (width f) (height e r.x) (height f r.x) r.y
+      (wide_by e q.x r.x has_e left) (wide_by f q.x r.x has_f left)
+      (not_higher e f q r of_e of_f has_e has_f left (height_cmp q e f) refl before) over_f in
+      lt_true (pos 0) (side_of_edge e r) (subst (λ z. pos 0 <ℤ z) (sym (side_is e r)) over_e)

@@ -2,7 +2,7 @@
 //! it runs.
 
 ghost use Rattle.cell_map.specs.Strips.{Strips, DifferIn, AreStripsOf, AreRefreshed};
-ghost use Rattle.cell_map.specs.EdgeOrder.{LowerStaysLower};
+ghost use Rattle.cell_map.specs.EdgeOrder.{LowerStaysLower, AboveIsAboveThoseBefore};
 
 use planar_law::PlanarEdges;
 
@@ -22,6 +22,15 @@ pub fn refreshed_are_built(strips: &[i64], before: &PlanarEdges, after: &PlanarE
 /// as both reach.
 pub fn lower_stays_lower(planar: &PlanarEdges)
     ensures { LowerStaysLower planar.now.edges }
+{
+    let _edges = planar.edges();
+}
+
+/// Where edges stand in order over a column, the lower before the higher, and of equally high ones that of
+/// less slope: there, and over each column further right that they have, a point above one of them is
+/// above all before it. So a search by halves finds the first edge that a point isn't above.
+pub fn above_is_above_those_before(planar: &PlanarEdges)
+    ensures { AboveIsAboveThoseBefore planar.now.edges }
 {
     let _edges = planar.edges();
 }

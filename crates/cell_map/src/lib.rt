@@ -32,7 +32,7 @@ mod strip;
 
 pub use cell_map::CellMap;
 pub use found::Found;
-pub use laws::{lower_stays_lower, refreshed_are_built};
+pub use laws::{above_is_above_those_before, lower_stays_lower, refreshed_are_built};
 
 #[cfg(test)]
 mod tests;
