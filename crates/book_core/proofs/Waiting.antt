@@ -124,8 +124,8 @@ pub none_more : (h : List Changes) (n : Label) (i : ℕ) (d : Changes) → i < l
     → All (λ x. ¬ Contains (inserted_names x.edits) n) (take i h) → (given : Bool)
     → (IsTrue (not given) → ¬ Contains (inserted_names ((get_or h i d).edits)) n) → given ≡ false
     → All (λ x. ¬ Contains (inserted_names x.edits) n) (take (i + 1) h)
-none_more h n i d fits none given unless no =
-    All-more (λ x. ¬ Contains (inserted_names x.edits) n) h i d fits none (unless (ap not no))
+none_more h n i d fits none given unless away =
+    All-more (λ x. ¬ Contains (inserted_names x.edits) n) h i d fits none (unless (ap not away))
 
 -- a name that none of the changes inserts isn't in the history
 pub none_given : (h : List Changes) (n : Label) → All (λ x. ¬ Contains (inserted_names x.edits) n) h → ¬ Contains (given_names h) n

@@ -10,3 +10,4 @@ pub mod WorkedRows
 pub mod WorkedQueries
 pub mod WorkedLimits
 pub mod WorkedScripts
+pub mod ServedActs

@@ -1,7 +1,7 @@
 //! The machine at its limits.
 
-ghost use Rattle.std.specs.Prelude.{◌≡◌};
-ghost use Rattle.script_read.specs.Command.{is_served};
+ghost use Rattle.std.specs.Prelude.{◌≡◌, true, IfSome};
+ghost use Rattle.script_read.specs.Command.{IsFair, is_served};
 
 use crate::World;
 use grid_core::{Memory, Name, Point, Profile};
@@ -11,11 +11,24 @@ use std::test::Fail;
 
 /// What is said to an act of an editor.
 fn told(rt: &impl Abort, world: &mut World, editor: u8, act: Act) -> Result<Said, Memory> {
-    assert!(rt; editor >= 1 && editor <= 64);
-    assert!(rt; is_served(&act));
-    let reply = world.step(&Command { editor, act })?;
+    let command = fair(editor, act).expect(rt, "an editor from 1 to 64, and an act that is served");
+    let reply = world.step(&command)?;
     assert!(rt; reply.editor == editor);
     Ok(reply.said)
+}
+
+/// The command of an act that is served, by an editor from 1 to 64.
+fn fair(editor: u8, act: Act) -> Option<Command>
+    ensures fair { IfSome result IsFair }
+    ensures served { IfSome result (λ c. is_served c.act ≡ true) }
+{
+    if editor == 0 || editor > 64 {
+        return None;
+    }
+    if !is_served(&act) {
+        return None;
+    }
+    Some(Command { editor, act })
 }
 
 /// Whether the act is one that is served.
@@ -73,8 +86,9 @@ fn limits_a_segments(rt: HostRuntime) -> Result<(), Fail> {
 #[test]
 fn limits_b_spans(rt: HostRuntime) -> Result<(), Fail> {
     let mut world = World::open(rt.alloc(), Profile::edition_one())?;
-    for k in 0..511 {
-        let said = drawn(&rt, &mut world, [-1_048_576, 32 * k, 1_048_576, 32 * k])?;
+    for k in 0..511_u16 {
+        let y = 32 * i64::from(k);
+        let said = drawn(&rt, &mut world, [-1_048_576, y, 1_048_576, y])?;
         assert!(&rt; matches!(said, Said::Commit { .. }));
     }
     let said = drawn(&rt, &mut world, [-1_048_576, 16_352, 1_048_576, 16_352])?;
@@ -92,10 +106,11 @@ fn limits_b_spans(rt: HostRuntime) -> Result<(), Fail> {
 #[test]
 fn limits_c_passes(rt: HostRuntime) -> Result<(), Fail> {
     let mut world = World::open(rt.alloc(), Profile::edition_one())?;
-    for k in 1..1448 {
-        let said = drawn(&rt, &mut world, [0, 16 * k, 23_168, 16 * k])?;
+    for k in 1..1448_u16 {
+        let at = 16 * i64::from(k);
+        let said = drawn(&rt, &mut world, [0, at, 23_168, at])?;
         assert!(&rt; matches!(said, Said::Commit { .. }));
-        let said = drawn(&rt, &mut world, [16 * k, 0, 16 * k, 23_168])?;
+        let said = drawn(&rt, &mut world, [at, 0, at, 23_168])?;
         assert!(&rt; matches!(said, Said::Commit { .. }));
     }
     let said = drawn(&rt, &mut world, [0, 23_160, 23_168, 23_160])?;
