@@ -1,5 +1,5 @@
 -- Lists of seats: a seat put in place of another, and seats that hold what they held.
-use Rattle.std.proofs.Common.{◌≡◌, ◌≢◌, refl, sym, ap, subst, ◌∙◌, arith, ℕ, zero, suc, ◌+◌, ◌<◌, ◌≤◌, ◌⊎◌, inl, inr, true≢false, is_some, false, is_err, OnOk, OnErr, Result, Ok, Err, List, [], ◌∷◌, length, set, get_or, get_or-set_same, get_or-set_other, below_more, Some}
+use Rattle.std.proofs.Common.{◌≡◌, ◌≢◌, refl, sym, ap, subst, ◌∙◌, arith, ℕ, zero, suc, ◌+◌, ◌<◌, ◌≤◌, ◌⊎◌, inl, inr, true≢false, is_some, false, is_err, OnOk, OnErr, Result, Ok, Err, List, [], ◌∷◌, length, set, get_or, get_or-set_same, get_or-set_other, Some}
 use Rattle.std.specs.Prelude.{unwrap_or}
 use Rattle.std.proofs.lemmas.List.{length-set}
 use Rattle.book_core.specs.Book.{BookState}
@@ -7,12 +7,6 @@ use Rattle.session_core.specs.declared.seat.Held.{Held}
 use Rattle.session_core.specs.declared.seat.Held.TheVariants.{Newest, Older}
 use Rattle.session_core.specs.declared.seat.Seat.{Seat}
 use Rattle.session_core.specs.World.{held_version, shared_version, new_seat, IsShare, IsAlike, AreShares, AreAlike, AreKept}
-
-less_or_not : (i j : ℕ) → (i < j) ⊎ (j ≤ i)
-less_or_not zero zero = inr (omega arith)
-less_or_not zero (suc j) = inl (omega arith)
-less_or_not (suc i) zero = inr (omega arith)
-less_or_not (suc i) (suc j) = elim (less_or_not i j) [ inl h ↦ inl (omega (arith, h)) | inr h ↦ inr (omega (arith, h)) ]
 
 pub same_or_not : (i j : ℕ) → (i ≡ j) ⊎ (i ≢ j)
 same_or_not zero zero = inl refl
@@ -38,37 +32,6 @@ pub record FirstShare (b : BookState) (n : ℕ) (old new : List Seat) : Type 0 w
   pub all : length new ≡ length old
   pub done : (i : ℕ) → i < n → IsShare b (get_or old i new_seat) (get_or new i new_seat)
   pub rest : (i : ℕ) → n ≤ i → get_or new i new_seat ≡ get_or old i new_seat
-
-pub none_share : (b : BookState) (seats : List Seat) → FirstShare b 0 seats seats
-none_share b seats = record { all = refl; done = λ i h. absurd (omega (arith, h)); rest = λ i h. refl }
-
-pub next_share : (b : BookState) (n : ℕ) (old new : List Seat) (t : Seat) → n < length new → FirstShare b n old new
-    → IsShare b (get_or new n new_seat) t → FirstShare b (n + 1) old (set new n t)
-next_share b n old new t fits first own =
-    record {
-      all = length-set new n t ∙ first.all;
-      done = below_more _ _ others
-          (subst (λ u. IsShare b (get_or old n new_seat) u) (sym (get_or-set_same new n t new_seat fits))
-          (subst (λ u. IsShare b u t) (first.rest n (omega arith)) own));
-      rest = λ i h. get_or-set_other new n i t new_seat (λ e. omega (arith, e, h)) ∙ first.rest i (omega (arith, h));
-    }
-  where
-    others : (i : ℕ) → i < n → IsShare b (get_or old i new_seat) (get_or (set new n t) i new_seat)
-    others i h =
-        subst (λ u. IsShare b (get_or old i new_seat) u) (sym (get_or-set_other new n i t new_seat (λ e. omega (arith, e, h))))
-        (first.done i h)
-
--- all have
-pub all_share : (b : BookState) (n : ℕ) (old new : List Seat) → length old ≤ n → FirstShare b n old new → AreShares b old new
-all_share b n old new most first = record { all = first.all; each = λ i h. first.done i (omega (arith, h, most)) }
-
--- some have, and each editor holds what it held
-pub some_share : (b : BookState) (n : ℕ) (old new : List Seat) → FirstShare b n old new → AreAlike b old new
-some_share b n old new first = record { all = first.all; each = λ i h. by i (less_or_not i n) }
-  where
-    by : (i : ℕ) → (i < n) ⊎ (n ≤ i) → IsAlike b (get_or old i new_seat) (get_or new i new_seat)
-    by i (inl less) = share_alike b _ _ (first.done i less)
-    by i (inr more) = alike_same b _ _ (first.rest i more)
 
 -- ---- an editor's own seat
 

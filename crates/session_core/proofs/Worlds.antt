@@ -12,7 +12,6 @@ use Rattle.book_core.specs.declared.refusal.Refusal.{Refusal}
 use Rattle.script_read.specs.declared.command.Act.{Act}
 use Rattle.script_read.specs.declared.command.Act.TheVariants.{Commit as MakeCommit}
 use Rattle.script_read.specs.declared.reply.Said.{Said}
-use Rattle.script_read.specs.declared.reply.Said.TheVariants.{Nothing}
 use Rattle.session_core.specs.declared.seat.Seat.{Seat}
 use Rattle.session_core.specs.Machine.{Session, editors, new_session}
 use Rattle.session_core.specs.Step.{Outcome, stays, committing, after_commit, outcome, after_outcome, refusal_said}
@@ -122,17 +121,6 @@ commit_comes k b seats editor e s at =
 pub own_may : (b : BookState) (editor : ℕ) (s : Seat) (x : PreparedChange) → IsSeat b editor s → s.prepared ≡ Some x
     → IsOfEditor b editor s.serial x
 own_may b editor s x seat e = subst (λ o. IfSome o (IsOfEditor b editor s.serial)) e seat.prepared
-
--- nothing is prepared
-pub nothing_committed : (b : BookState) (own : ℕ) (s : Seat) → IsSeat b own s → s.prepared ≡ None
-    → (p : Option PreparedChange) → p ≡ None → Did b own MakeCommit s (record s { prepared = p }) Nothing
-nothing_committed b own s seat e p gone =
-    subst (λ o. Did b own MakeCommit s (record s { prepared = o }) Nothing) (sym gone)
-    (record {
-      seat = record { held = seat.held; prepared = tt; serials = seat.serials };
-      done =
-          ap (λ o. after_commit b.version.profile b.history (record (session_in b s) { prepared = option_map based_change o }) (option_map based_change o)) e;
-    })
 
 -- the change isn't taken
 pub commit_refused : (b : BookState) (own : ℕ) (s : Seat) (x : PreparedChange) (why : Refusal) → IsSeat b own s → s.prepared ≡ Some x
