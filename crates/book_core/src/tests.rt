@@ -109,7 +109,9 @@ impl Desk {
         let p = Point { x: a, y: b };
         let q = Point { x: c, y: d };
         let s = Ur::new(&base.profile(), name, p, q).expect(rt, "two ends within the bound");
-        assert!(rt; base.segment(s.name(), &mut looked)?.is_none());
+        if base.segment(s.name(), &mut looked)?.is_some() {
+            panic!(rt; "a name that isn't live");
+        }
         let prepared = prepare_insert(alloc, base, s, &mut looked)?;
         with(rt, book, looked, waiting, prepared)
     }
@@ -199,7 +201,9 @@ fn with(
     requires waiting { AreWaiting book waiting.items }
     requires prepared { IsPreparedOn book.version prepared }
 {
-    assert!(rt; may_wait(&book, &prepared));
+    if !may_wait(&book, &prepared) {
+        panic!(rt; "a change that the book may be given");
+    }
     waiting.push(prepared)?;
     Ok(Desk {
         book,
