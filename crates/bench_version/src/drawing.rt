@@ -72,7 +72,10 @@ impl Drawing {
     pub(crate) fn checksum(&mut self) -> Result<u64, Memory> {
         let routes = routes_sum(&self.version, &mut self.looked)?;
         self.looked.clear();
-        Ok(mixed(mixed(numbers_sum(&self.version), stamps_sum(&self.version)), routes))
+        Ok(mixed(
+            mixed(numbers_sum(&self.version), stamps_sum(&self.version)),
+            routes,
+        ))
     }
 
     /// Puts in the segment of a serial and these ends. `false` where that can't be.
