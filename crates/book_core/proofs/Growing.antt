@@ -13,7 +13,7 @@ use Rattle.version_core.specs.declared.change.Edit.{Edit}
 use Rattle.version_core.specs.declared.change.Edit.TheVariants.{Insert, Delete}
 use Rattle.version_core.specs.Edits.{Changes, after_edits, inserted_names, FitEdits}
 use Rattle.version_core.specs.History.{live_from, live, FitFrom, Fit, touches, last_touch, clash, given_names}
-use Rattle.version_core.specs.Laws.{AreSegments, AreOf}
+use Rattle.version_core.specs.Laws.{AreSegments, AreChangesWithin}
 use Rattle.version_core.specs.Stands.{PreparedChange, Stands}
 use Rattle.version_core.specs.Version.{VersionState, IsNext, stamp_of}
 use Rattle.version_core.proofs.Histories.{changes_are_rebased}
@@ -85,7 +85,7 @@ pub rebased : (b : BookState) → IsBook b → 0 < b.version.profile.side → (x
 rebased b is some x may own apart =
     changes_are_rebased b.version.profile some x b.history may.profile (record {
       own = own;
-      others = subst (λ p. AreOf p.bound b.history) (sym may.profile) is.within;
+      others = subst (λ p. AreChangesWithin p.bound b.history) (sym may.profile) is.within;
       fits = is.fits;
       apart = ap (λ p. clash p b.history x.base x.change) may.profile ∙ apart;
       new = may.new;
@@ -100,8 +100,8 @@ grown b is x fit new own few c took =
     record {
       fits = subst Fit (sym took.history) (fit_push [] [] b.history x is.fits fit (λ n k l. omega (arith, l.1)) new);
       within =
-          subst (λ p. AreOf p.bound c.history) (sym next.profile)
-          (subst (AreOf b.version.profile.bound) (sym took.history)
+          subst (λ p. AreChangesWithin p.bound c.history) (sym next.profile)
+          (subst (AreChangesWithin b.version.profile.bound) (sym took.history)
           (all_push (λ y. AreSegments b.version.profile.bound y.edits) b.history x is.within own));
       few = omega (arith, longer, few);
       number = next.number ∙ omega (arith, is.number, longer);

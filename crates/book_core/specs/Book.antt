@@ -3,7 +3,7 @@ use Rattle.std.specs.Prelude.{◌≡◌, ℕ, ◌≤◌, ◌^◌, List, length}
 use Rattle.grid_core.specs.declared.tile.TileId.{TileId}
 use Rattle.version_core.specs.Edits.{Changes}
 use Rattle.version_core.specs.History.{live, Fit, last_touch}
-use Rattle.version_core.specs.Laws.{AreOf}
+use Rattle.version_core.specs.Laws.{AreChangesWithin}
 use Rattle.version_core.specs.Version.{VersionState, stamp_of}
 
 -- a book as contracts see it
@@ -19,7 +19,7 @@ most_commits = 2 ^ 18
 -- the live list after it, and for each tile the number of the last change that touches it
 pub record IsBook (b : BookState) : Type 0 where
   pub fits : Fit b.history
-  pub within : AreOf b.version.profile.bound b.history
+  pub within : AreChangesWithin b.version.profile.bound b.history
   pub few : length b.history ≤ most_commits
   pub number : b.version.number ≡ length b.history
   pub live : b.version.live ≡ live b.history

@@ -13,7 +13,7 @@ use Rattle.grid_core.specs.declared.point.Point.{Point}
 use Rattle.grid_core.specs.Vector.{cross_of, minus}
 use Rattle.grid_core.specs.Segment.{Segment, direction}
 use Rattle.grid_core.specs.Meets.{box_of, meets_pixel_of}
-use Rattle.grid_core.specs.Crossing.{RationalPoint, is_part, point_along, within_both, crossing_of}
+use Rattle.grid_core.specs.Crossing.{RationalPoint, in_unit_interval, point_along, within_both, crossing_of}
 use Rattle.grid_core.specs.Crossing.{pixel_coordinate, pixel_of}
 use Rattle.grid_core.specs.Rounding.{crossing_pixel}
 use Rattle.grid_core.specs.Laws.{IsFromTo, IsInBox}
@@ -105,7 +105,7 @@ swapped false false = refl
 -- where the point is one on both segments, it doesn't matter which of them comes first
 within_swapped : (s t : Segment) (u v den : ℤ) → point_along s u den ≡ point_along t v den
     → within_both s u v den ≡ within_both t v u den
-within_swapped s t u v den e = λ i. if swapped (is_part u den) (is_part v den) i then Some (e i) else None
+within_swapped s t u v den e = λ i. if swapped (in_unit_interval u den) (in_unit_interval v den) i then Some (e i) else None
 
 abbrev by_sign : Segment → ℤ → ℤ → ℤ → Option RationalPoint
 by_sign s u v den =
@@ -208,9 +208,9 @@ meets_pixel_of_point s u den h low high =
 
 within_met : (s : Segment) (u v den : ℤ) → pos 0 <ℤ den
     → IfSome (within_both s u v den) (λ c. IsTrue (meets_pixel_of s (pixel_of c)))
-within_met s u v den h = by (is_part u den && is_part v den) refl
+within_met s u v den h = by (in_unit_interval u den && in_unit_interval v den) refl
   where
-    by : (b : Bool) → is_part u den && is_part v den ≡ b
+    by : (b : Bool) → in_unit_interval u den && in_unit_interval v den ≡ b
         → IfSome (if b then Some (point_along s u den) else None) (λ c. IsTrue (meets_pixel_of s (pixel_of c)))
     by true e =
         let part : (pos 0 ≤ℤ u) × (u ≤ℤ den) = grind (arith, ints) in

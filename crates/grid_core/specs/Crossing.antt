@@ -14,8 +14,8 @@ pub record RationalPoint : Type 0 where
   pub den : ℤ
 
 -- u / den is from 0 to 1
-abbrev pub is_part : ℤ → ℤ → Bool
-is_part u den = int_le (pos 0) u && int_le u den
+abbrev pub in_unit_interval : ℤ → ℤ → Bool
+in_unit_interval u den = int_le (pos 0) u && int_le u den
 
 -- s.p + (u / den) (s.q - s.p)
 abbrev pub point_along : Segment → ℤ → ℤ → RationalPoint
@@ -29,7 +29,7 @@ point_along s u den =
 -- the point of s at the parameter u / den, where that and the parameter v / den of the other segment
 -- are from 0 to 1
 abbrev pub within_both : Segment → ℤ → ℤ → ℤ → Option RationalPoint
-within_both s u v den = if is_part u den && is_part v den then Some (point_along s u den) else None
+within_both s u v den = if in_unit_interval u den && in_unit_interval v den then Some (point_along s u den) else None
 
 -- where the lines of two segments that aren't parallel meet, if that point lies on both;
 -- the denominator is the size of the cross product of the directions

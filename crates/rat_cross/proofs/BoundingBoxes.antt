@@ -11,7 +11,7 @@ use Rattle.std.proofs.lemmas.Int.{ints, clamps}
 use Rattle.grid_core.specs.declared.point.Point.{Point}
 use Rattle.grid_core.specs.Vector.{cross_of, minus, point_cmp}
 use Rattle.grid_core.specs.Segment.{Segment, direction}
-use Rattle.grid_core.specs.Crossing.{crossing_of, is_part, point_along, within_both}
+use Rattle.grid_core.specs.Crossing.{crossing_of, in_unit_interval, point_along, within_both}
 use Rattle.grid_core.proofs.Signed.{lt_false, from_lt_true}
 use Rattle.grid_core.proofs.Ring.{int_mul_comm, int_mul-le_right, int_le_of_mul}
 use Rattle.grid_core.proofs.Order.{point_less}
@@ -155,7 +155,7 @@ reach_both s t u v den o hs ht ul uh vl vh =
     min_right : (a b : ℤ) → int_min a b ≤ℤ b
     min_right a b = omega (arith, ints, clamps)
 
-part_branch : (s t : Segment) (u v den : ℤ) (b : Bool) → is_part u den && is_part v den ≡ b
+part_branch : (s t : Segment) (u v den : ℤ) (b : Bool) → in_unit_interval u den && in_unit_interval v den ≡ b
     → OnePoint s t u v den
     → point_cmp s.p s.q ≡ Less → point_cmp t.p t.q ≡ Less → apart_of s t ≡ true
     → (if b then Some (point_along s u den) else None) ≡ None
@@ -174,11 +174,11 @@ sign_branch : (s t : Segment) (u v den : ℤ) (b c : Bool) → int_lt (pos 0) de
     → (if b then within_both s u v den else if c then within_both s (pos 0 -ℤ u) (pos 0 -ℤ v)
     (pos 0 -ℤ den) else None) ≡ None
 sign_branch s t u v den true c e f o back hs ht apart =
-    part_branch s t u v den (is_part u den && is_part v den) refl
+    part_branch s t u v den (in_unit_interval u den && in_unit_interval v den) refl
     (o (from_lt_true (pos 0) den e)) hs ht apart
 sign_branch s t u v den false true e f o back hs ht apart =
     part_branch s t (pos 0 -ℤ u) (pos 0 -ℤ v) (pos 0 -ℤ den)
-    (is_part (pos 0 -ℤ u) (pos 0 -ℤ den) && is_part (pos 0 -ℤ v) (pos 0 -ℤ den)) refl
+    (in_unit_interval (pos 0 -ℤ u) (pos 0 -ℤ den) && in_unit_interval (pos 0 -ℤ v) (pos 0 -ℤ den)) refl
     (back (from_lt_true den (pos 0) f)) hs ht apart
 sign_branch s t u v den false false e f o back hs ht apart = refl
 

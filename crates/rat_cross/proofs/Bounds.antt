@@ -12,7 +12,7 @@ use Rattle.std.proofs.lemmas.Nat.{div_below}
 use borrow.Author.Differences.{up, down}
 use Rattle.grid_core.specs.Vector.{IsWithin, cross_of, minus}
 use Rattle.grid_core.specs.Segment.{Segment, IsSegment, direction}
-use Rattle.grid_core.specs.Crossing.{RationalPoint, crossing_of, is_part, point_along, within_both}
+use Rattle.grid_core.specs.Crossing.{RationalPoint, crossing_of, in_unit_interval, point_along, within_both}
 use Rattle.grid_core.specs.Crossing.{pixel_coordinate, pixel_of}
 use Rattle.grid_core.proofs.Signed.{signed, one_part, from_lt_true, from_le_true, product_within, fits_by_size, size_between}
 use Rattle.grid_core.proofs.Sizes.{between_within, direction_within, cross_within}
@@ -56,7 +56,7 @@ point_within n s u den h positive small low high =
       y = between_within s.p.y s.q.y u den n h.p_within.y h.q_within.y low high;
     }
 
-part_branch : (n : ℕ) (s : Segment) (u v den : ℤ) (b : Bool) → is_part u den && is_part v den ≡ b
+part_branch : (n : ℕ) (s : Segment) (u v den : ℤ) (b : Bool) → in_unit_interval u den && in_unit_interval v den ≡ b
     → IsSegment n s → pos 0 <ℤ den
     → unsigned_abs den ≤ 8 * (n * n)
     → IfSome (if b then Some (point_along s u den) else None) (IsCrossPoint n)
@@ -69,7 +69,7 @@ both_within : (n : ℕ) (s : Segment) (u v den : ℤ) → IsSegment n s → pos 
     → unsigned_abs den ≤ 8 * (n * n)
     → IfSome (within_both s u v den) (IsCrossPoint n)
 both_within n s u v den h positive small =
-    part_branch n s u v den (is_part u den && is_part v den) refl h positive small
+    part_branch n s u v den (in_unit_interval u den && in_unit_interval v den) refl h positive small
 
 sign_branch : (n : ℕ) (s : Segment) (u v den : ℤ) (b c : Bool) → int_lt (pos 0) den ≡ b
     → int_lt den (pos 0) ≡ c → IsSegment n s

@@ -17,7 +17,7 @@ pub(crate) struct CrossProduct {
 impl CrossProduct {
     ghost use Rattle.std.specs.Prelude.{◌≡◌, ◌≤◌, ◌^◌, pos, int_lt, unsigned_abs};
     ghost use Rattle.grid_core.specs.Vector.{IsWithin, cross_of};
-    ghost use Rattle.grid_core.specs.Crossing.{is_part};
+    ghost use Rattle.grid_core.specs.Crossing.{in_unit_interval};
     ghost use Rattle.rat_cross.specs.CrossProduct.{product_value};
 
     /// `d x e`.
@@ -59,8 +59,8 @@ impl CrossProduct {
 
     /// Whether it is from 0 to `den`.
     #[inline(always)]
-    pub(crate) fn is_part_of(self, den: u64) -> bool
-        ensures { result ≡ is_part (product_value self) (pos den) }
+    pub(crate) fn lies_within(self, den: u64) -> bool
+        ensures { result ≡ in_unit_interval (product_value self) (pos den) }
     {
         self.minus <= self.plus && self.size() <= den
     }

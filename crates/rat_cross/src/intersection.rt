@@ -103,10 +103,10 @@ fn common_point(s: &Ur, w: Point, d: Point, e: Point, den: u64) -> Option<Cross>
     ensures { result ≡ within_both s.now (cross_of w e) (cross_of w d) (pos den) }
 {
     let u = CrossProduct::of(w, e);
-    if !u.is_part_of(den) {
+    if !u.lies_within(den) {
         return None;
     }
-    if !CrossProduct::of(w, d).is_part_of(den) {
+    if !CrossProduct::of(w, d).lies_within(den) {
         return None;
     }
     Some(point_at(s, u.size(), den))

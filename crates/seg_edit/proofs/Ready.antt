@@ -22,7 +22,7 @@ use Rattle.version_core.specs.Stands.{content_of, tile_with}
 use Rattle.version_core.proofs.Bounds.{tiles_length, rising_length}
 use Rattle.version_core.proofs.Found.{name_listed}
 use Rattle.version_core.proofs.Rebased.{names_kept}
-use Rattle.seg_edit.specs.Contents.{segments_in, found_contents, IsOf, MayGrow, MayShrink}
+use Rattle.seg_edit.specs.Contents.{segments_in, found_contents, IsContentOf, MayGrow, MayShrink}
 use Rattle.seg_edit.proofs.Preparing.{met_here, segments_near}
 
 -- what holds of each member holds of all
@@ -42,10 +42,10 @@ along_few pr profile s fits =
     omega (arith, rising_length (along_tile_cmp s) (tiles pr s), tiles_length pr profile s fits)
 
 -- a content is one of its tile
-content_is_of : (pr : Sizes) (t : TileId) (ss : List Segment) → IsOf pr t (content_of pr t ss)
+content_is_of : (pr : Sizes) (t : TileId) (ss : List Segment) → IsContentOf pr t (content_of pr t ss)
 content_is_of pr t ss = by (near pr t ss)
   where
-    by : (us : List Segment) → IsOf pr t (tile_with pr t us)
+    by : (us : List Segment) → IsContentOf pr t (tile_with pr t us)
     by [] = tt
     by (u ∷ us) = (refl, refl)
 
@@ -86,7 +86,7 @@ module _ (pr : Sizes) (profile : IsProfile pr) (ss : List Segment) (few : length
         record {
           met = m;
           reach = met_tiles_are_in_reach pr profile s fits e.0 m;
-          own = subst (IsOf pr e.0) (sym own.0) (content_is_of pr e.0 ss);
+          own = subst (IsContentOf pr e.0) (sym own.0) (content_is_of pr e.0 ss);
           new = λ c. new (names_kept (meets_tile pr e.0) ss s.name (subst (λ us. Contains (names us) s.name) at c));
           few = subst (λ us. length us < 65536) (sym at) (omega (arith, filter_length (meets_tile pr e.0) ss, few));
         },
@@ -107,7 +107,7 @@ module _ (pr : Sizes) (profile : IsProfile pr) (ss : List Segment) (few : length
       let there : Contains (near pr e.0 ss) s = (contains_filter (meets_tile pr e.0) ss s).1 (here, m) in (
         record {
           reach = met_tiles_are_in_reach pr profile s fits e.0 m;
-          own = subst (IsOf pr e.0) (sym own.0) (content_is_of pr e.0 ss);
+          own = subst (IsContentOf pr e.0) (sym own.0) (content_is_of pr e.0 ss);
           here = subst (λ us. Contains (names us) s.name) (sym at) (name_listed (near pr e.0 ss) s there);
         },
         may_shrink here es own.1 (λ t c. meets t (contains_later e.0 (map (λ d. d.0) es) t c)),

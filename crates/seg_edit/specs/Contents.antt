@@ -34,20 +34,20 @@ abbrev pub found_contents : List (TileId × Option (Bor TileContent)) → List (
 found_contents found = map (λ e. (e.0, option_copied e.1)) found
 
 -- the content is one of this tile, in a drawing of these sizes
-abbrev pub IsOf : Sizes → TileId → Option TileContent → Type 0
-IsOf pr t None = Unit {0}
-IsOf pr t (Some c) = (c.profile ≡ pr) × (c.id ≡ t)
+abbrev pub IsContentOf : Sizes → TileId → Option TileContent → Type 0
+IsContentOf pr t None = Unit {0}
+IsContentOf pr t (Some c) = (c.profile ≡ pr) × (c.id ≡ t)
 
 -- the segment may be put into the tile: it meets it, and its name is new there
 pub record MayGrow (pr : Sizes) (s : Segment) (c : TileId × Option TileContent) : Type 0 where
   pub met : IsTrue (meets_tile pr c.0 s)
   pub reach : IsTileInReach c.0
-  pub own : IsOf pr c.0 c.1
+  pub own : IsContentOf pr c.0 c.1
   pub new : ¬ Contains (names (segments_in c.1)) s.name
   pub few : length (segments_in c.1) < 65536
 
 -- the segment of the name may be taken out of the tile, which has it
 pub record MayShrink (pr : Sizes) (name : Label) (c : TileId × Option TileContent) : Type 0 where
   pub reach : IsTileInReach c.0
-  pub own : IsOf pr c.0 c.1
+  pub own : IsContentOf pr c.0 c.1
   pub here : Contains (names (segments_in c.1)) name

@@ -20,7 +20,7 @@ use Rattle.version_core.specs.History.{live_from, live, FitFrom, touches, shared
 use Rattle.version_core.specs.Stands.{PreparedChange, Stands}
 use Rattle.version_core.proofs.Rebased.{names_with, names_without}
 use Rattle.version_core.proofs.Apart.{AreFar, live_after, near_after_changes}
-use Rattle.version_core.specs.Laws.{AreSegments, AreOf, ChangesAreRebased}
+use Rattle.version_core.specs.Laws.{AreSegments, AreChangesWithin, ChangesAreRebased}
 use Rattle.version_core.proofs.Rebasing.{edits_covered, far_from, stands_rebased}
 
 -- ---- no clash
@@ -95,14 +95,14 @@ live_names ss (x ∷ h) n k =
 -- ---- histories
 
 -- the live list after changes is one
-pub live_is_live : (n : ℕ) (ss : List Segment) (h : List Changes) → IsLiveList n ss → AreOf n h → IsLiveList n (live_from ss h)
+pub live_is_live : (n : ℕ) (ss : List Segment) (h : List Changes) → IsLiveList n ss → AreChangesWithin n h → IsLiveList n (live_from ss h)
 live_is_live n ss [] is fits = is
 live_is_live n ss (x ∷ h) is fits =
     live_is_live n (after_edits ss x.edits) h (live_after n x.editor [] ss x.edits is fits.0) fits.1
 
 -- where x shares no tile with the changes, they are far from each of its tiles
 all_far : (n : ℕ) (pr : Sizes) → 0 < pr.side → (x : Changes) (t : TileId) → Contains (tiles_of_edits pr x.edits) t
-    → (h : List Changes) → AreOf n h → AllByRecursion (λ y. shared_tiles pr x y ≡ []) h
+    → (h : List Changes) → AreChangesWithin n h → AllByRecursion (λ y. shared_tiles pr x y ≡ []) h
     → AllByRecursion (λ y. AreFar pr t y.edits) h
 all_far n pr some x t c [] fits none = tt
 all_far n pr some x t c (y ∷ h) fits none = (
@@ -113,7 +113,7 @@ all_far n pr some x t c (y ∷ h) fits none = (
 
 -- the law of rebasing over the changes that came after a live list
 pub rebased_over : (n : ℕ) (x : PreparedChange) → 0 < x.profile.side → (given : List Label) (ss : List Segment) (later : List Changes)
-    → IsLiveList n ss → AreSegments n x.change.edits → AreOf n later → FitFrom given ss later
+    → IsLiveList n ss → AreSegments n x.change.edits → AreChangesWithin n later → FitFrom given ss later
     → ((m : Label) → Contains (inserted_names x.change.edits) m → Contains (names (live_from ss later)) m → ⊥)
     → (k : ℕ) → last_or None (filter_map (clash_with x.profile x.change) (enumerate_from k later)) ≡ None
     → Stands x ss → Stands x (live_from ss later)

@@ -15,15 +15,15 @@ abbrev pub AreSegments : ℕ → List Edit → Type 0
 AreSegments n es = AllByRecursion (λ e. IsSegment n (edited_segment e)) es
 
 -- the segments of all edits of the changes lie within n
-abbrev pub AreOf : ℕ → List Changes → Type 0
-AreOf n h = AllByRecursion (λ x. AreSegments n x.edits) h
+abbrev pub AreChangesWithin : ℕ → List Changes → Type 0
+AreChangesWithin n h = AllByRecursion (λ x. AreSegments n x.edits) h
 
 -- what is asked of a change that was prepared after the first changes of a history: all segments are
 -- of the drawing, the history fits, no later change shares a tile with it, and none of the names that
 -- it inserts is in the history
 pub record IsUnclashed (x : PreparedChange) (h : List Changes) : Type 0 where
   pub own : AreSegments x.profile.bound x.change.edits
-  pub others : AreOf x.profile.bound h
+  pub others : AreChangesWithin x.profile.bound h
   pub fits : Fit h
   pub apart : clash x.profile h x.base x.change ≡ None
   pub new : (n : Label) → Contains (inserted_names x.change.edits) n → ¬ Contains (given_names h) n
