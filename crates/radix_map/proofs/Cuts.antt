@@ -80,10 +80,6 @@ pub from-append : {V : Type 0} (k : ℕ) (xs ys : List (ℕ × V)) → entries_f
 unfolding entries_from
 from-append k xs ys = filter-append (λ e. nat_le k e.0) xs ys
 
-pub below-append : {V : Type 0} (k : ℕ) (xs ys : List (ℕ × V)) → entries_below k (xs ++ ys) ≡ entries_below k xs ++ entries_below k ys
-unfolding entries_below
-below-append k xs ys = filter-append (λ e. nat_lt e.0 k) xs ys
-
 pub from-raised : {V : Type 0} (b k : ℕ) (es : List (ℕ × V)) → entries_from (b + k) (raised b es) ≡ raised b (entries_from k es)
 unfolding entries_from raised
 from-raised b k [] = refl

@@ -4,7 +4,7 @@ use Rattle.std.proofs.Math.Nat.{div-div-eq-div-mul}
 use Rattle.radix_map.specs.declared.level.Leaf.{Leaf}
 use Rattle.radix_map.specs.Entries.{Rises, part, entries_of, node_map}
 use Rattle.radix_map.specs.Inner.{IsLeafOf}
-use Rattle.radix_map.specs.Map.{leaf_entries}
+use Rattle.radix_map.specs.Levels.{leaf_entries}
 use Rattle.radix_map.specs.Slots.{item_at}
 use Rattle.radix_map.specs.Rising.{leaf_rises, pow_16}
 use Rattle.radix_map.proofs.Trees.{node_value}

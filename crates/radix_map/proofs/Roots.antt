@@ -3,13 +3,12 @@ use Rattle.std.proofs.Common.{◌≡◌, ℕ, suc, zero, ◌+◌, ◌*◌, ◌^�
 use Rattle.std.proofs.Math.Nat.{mod-eq_of_lt}
 use Rattle.std.specs.Arc.{arc_value}
 use Rattle.std.specs.declared.sync.Arc.{Arc}
-use Rattle.radix_map.specs.declared.level.Leaf.{Leaf}
-use Rattle.radix_map.specs.declared.level.Node.{Node}
 use Rattle.radix_map.specs.Entries.{value_at, edited, edited_all, edited_within, KeysFit, Rises, keys_end}
-use Rattle.radix_map.specs.Map.{leaf_entries, node_entries, root_entries}
+use Rattle.radix_map.specs.Levels.{Root, leaf_entries, node_entries, root_entries}
 use Rattle.radix_map.specs.Pending.{IsCarried}
 use Rattle.std.proofs.lemmas.List.{take-append-drop}
-use Rattle.radix_map.proofs.Noted.{edit_or, value_noted, fit_from_rises}
+use Rattle.radix_map.proofs.Laws.{value_edited_all}
+use Rattle.radix_map.proofs.Noted.{edit_or, fit_from_rises}
 use Rattle.radix_map.proofs.Values.{within_rises}
 use Rattle.radix_map.specs.Rising.{leaf_rises, node_rises, rises_lower, rises-length}
 
@@ -19,7 +18,7 @@ Within {T} f s = (x : T) → Rises 0 (16 * 2 ^ s) (f x)
 level_rises : {T V : Type 0} (f : T → List (ℕ × V)) (s : ℕ) → Within f s → Within (node_entries f s) (s + 4)
 level_rises f s h x = node_rises f s h x.slots
 
-pub root_rises : {V : Type 0} (x : Node (Node (Node (Node (Node (Node (Node (Leaf V)))))))) → Rises 0 keys_end (root_entries x)
+pub root_rises : {V : Type 0} (x : Root V) → Rises 0 keys_end (root_entries x)
 root_rises {V} x =
     let h0 : Within {V = V} leaf_entries 0 = λ y. leaf_rises y.slots in
     let h1 = level_rises leaf_entries 0 h0 in
@@ -30,7 +29,7 @@ root_rises {V} x =
     let h6 = level_rises _ 20 h5 in
     level_rises _ 24 h6 x
 
-pub root_size : {V : Type 0} (x : Node (Node (Node (Node (Node (Node (Node (Leaf V)))))))) → length (root_entries x) ≤ keys_end
+pub root_size : {V : Type 0} (x : Root V) → length (root_entries x) ≤ keys_end
 root_size x = let h = rises-length 0 keys_end (root_entries x) (root_rises x) in omega arith
 
 pub within_all : {V Z : Type 0} (es : List (ℕ × V)) (edits : List (ℕ × Option (Arc V Z))) → KeysFit edits
@@ -46,16 +45,16 @@ within_all es (e ∷ edits) h =
 pub found_set : {V Z : Type 0} (es : List (ℕ × V)) (k : ℕ) (ps : List (ℕ × Option (Arc V Z))) (e : Option (Arc V Z)) (r : Option V)
     → Rises 0 keys_end es → Rises 0 keys_end ps → Some e ≡ value_at k ps → r ≡ option_map arc_value e
     → r ≡ value_at k (edited_all es ps)
-found_set es k ps e r g h s q = q ∙ ap (λ o. edit_or o (value_at k es)) s ∙ sym (value_noted k 0 keys_end es ps g h)
+found_set es k ps e r g h s q = q ∙ ap (λ o. edit_or o (value_at k es)) s ∙ sym (value_edited_all k es ps g h)
 
 pub found_below : {V Z : Type 0} (es : List (ℕ × V)) (k : ℕ) (ps : List (ℕ × Option (Arc V Z))) (r : Option V)
     → Rises 0 keys_end es → Rises 0 keys_end ps → None ≡ value_at k ps → r ≡ value_at k es
     → r ≡ value_at k (edited_all es ps)
-found_below es k ps r g h s q = q ∙ ap (λ o. edit_or o (value_at k es)) s ∙ sym (value_noted k 0 keys_end es ps g h)
+found_below es k ps r g h s q = q ∙ ap (λ o. edit_or o (value_at k es)) s ∙ sym (value_edited_all k es ps g h)
 
 -- ---- a root after edits
 
-pub root_edited : {V Z : Type 0} (x y z : Node (Node (Node (Node (Node (Node (Node (Leaf V)))))))) (ps qs : List (ℕ × Option (Arc V Z)))
+pub root_edited : {V Z : Type 0} (x y z : Root V) (ps qs : List (ℕ × Option (Arc V Z)))
     → ps ≡ qs → KeysFit ps → root_entries x ≡ root_entries z
     → root_entries y ≡ edited_within keys_end (root_entries x) ps → root_entries y ≡ edited_all (root_entries z) qs
 root_edited x y z ps qs e fit s h =
@@ -78,14 +77,14 @@ unfolding edited_all
 all-append es [] ys = refl
 all-append es (x ∷ xs) ys = all-append (edited es x.0 (option_map arc_value x.1)) xs ys
 
-pub root_carried : {V Z : Type 0} (x y : Node (Node (Node (Node (Node (Node (Node (Leaf V)))))))) (ps : List (ℕ × Option (Arc V Z))) (n : ℕ)
+pub root_carried : {V Z : Type 0} (x y : Root V) (ps : List (ℕ × Option (Arc V Z))) (n : ℕ)
     → length ps ≤ n → Rises 0 keys_end ps → root_entries y ≡ edited_within keys_end (root_entries x) (take n ps)
     → root_entries y ≡ edited_all (root_entries x) ps
 root_carried x y ps n l h e =
     e ∙ ap (edited_within keys_end (root_entries x)) (take_all n ps l) ∙ within_all (root_entries x) ps (fit_from_rises 0 ps h)
 
 -- some were carried, and the others count over the root
-pub root_part : {V Z : Type 0} (x y : Node (Node (Node (Node (Node (Node (Node (Leaf V)))))))) (ps qs : List (ℕ × Option (Arc V Z))) (n : ℕ)
+pub root_part : {V Z : Type 0} (x y : Root V) (ps qs : List (ℕ × Option (Arc V Z))) (n : ℕ)
     → Rises 0 keys_end ps → IsCarried keys_end (root_entries x) (root_entries y) n ps qs
     → edited_all (root_entries y) qs ≡ edited_all (root_entries x) ps
 root_part x y ps qs n h c =
@@ -96,7 +95,7 @@ root_part x y ps qs n h c =
     ∙ sym (all-append (root_entries x) done (drop c.done ps))
     ∙ ap (edited_all (root_entries x)) (take-append-drop c.done ps)
 
-pub part_rises : {V Z : Type 0} (x y : Node (Node (Node (Node (Node (Node (Node (Leaf V)))))))) (ps qs : List (ℕ × Option (Arc V Z))) (n : ℕ)
+pub part_rises : {V Z : Type 0} (x y : Root V) (ps qs : List (ℕ × Option (Arc V Z))) (n : ℕ)
     → Rises 0 keys_end ps → IsCarried keys_end (root_entries x) (root_entries y) n ps qs → Rises 0 keys_end qs
 part_rises x y ps qs n h c = subst (Rises 0 keys_end) (sym c.rest) (rises_drop 0 keys_end c.done ps h)
 
@@ -108,12 +107,12 @@ pub none_rise : {V Z : Type 0} (ps : List (ℕ × Option (Arc V Z))) → ps ≡ 
 none_rise {V} {Z} ps e = let none : Rises {V = Option (Arc V Z)} 0 keys_end [] = omega arith in subst (Rises 0 keys_end) (sym e) none
 
 -- the keys of a root with noted edits over it rise below the end of keys
-pub noted_rise : {V Z : Type 0} (x : Node (Node (Node (Node (Node (Node (Node (Leaf V)))))))) (ps : List (ℕ × Option (Arc V Z)))
+pub noted_rise : {V Z : Type 0} (x : Root V) (ps : List (ℕ × Option (Arc V Z)))
     → Rises 0 keys_end ps → Rises 0 keys_end (edited_all (root_entries x) ps)
 noted_rise x ps h =
     subst (Rises 0 keys_end) (within_all (root_entries x) ps (fit_from_rises 0 ps h)) (within_rises keys_end (root_entries x) ps (omega arith) (root_rises x))
 
-pub edited_size : {V Z : Type 0} (x : Node (Node (Node (Node (Node (Node (Node (Leaf V)))))))) (ps : List (ℕ × Option (Arc V Z)))
+pub edited_size : {V Z : Type 0} (x : Root V) (ps : List (ℕ × Option (Arc V Z)))
     → Rises 0 keys_end ps → length (edited_all (root_entries x) ps) ≤ keys_end
 edited_size x ps h =
     let within = edited_within keys_end (root_entries x) ps in

@@ -14,9 +14,6 @@ use Rattle.radix_map.proofs.Trees.{edited_rises}
 pub key_equal : (x : ℕ) → nat_cmp x x ≡ Equal
 key_equal x = sym (nat_cmp_is x x Equal refl)
 
-pub key_greater : (x y : ℕ) → y < x → nat_cmp x y ≡ Greater
-key_greater x y h = sym (nat_cmp_is x y Greater h)
-
 equal_by : (x y : ℕ) (r : Ordering) → MatchOrdering r (x < y) (x ≡ y) (y < x) → is_eq r ≡ true → x ≡ y
 equal_by x y Less m h = cc
 equal_by x y Equal m h = m

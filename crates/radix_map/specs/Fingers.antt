@@ -1,24 +1,23 @@
 -- What a path into a map finds: the entries of the nodes that it leads through, and the leaf at its end.
 use Rattle.std.specs.Prelude.{ℕ, List, Option, Some, None, option_copied}
 use Rattle.std.specs.Borrow.{Bor}
-use Rattle.radix_map.specs.declared.level.Leaf.{Leaf}
-use Rattle.radix_map.specs.declared.level.Node.{Node}
 use Rattle.radix_map.specs.declared.find.BlockLeaf.{BlockLeaf}
 use Rattle.radix_map.specs.declared.find.NodeFinger.{NodeFinger}
-use Rattle.radix_map.specs.Map.{leaf_entries, node_entries}
+use Rattle.radix_map.specs.Levels.{Node1, Node2, Node3, Node4, Node5, Node6, node_entries}
+use Rattle.radix_map.specs.Levels.{entries1, entries2, entries3, entries4, entries5, entries6}
 use Rattle.radix_map.specs.Inner.{IsFingerOf, IsLeafOf}
 use Rattle.radix_map.specs.Entries.{keys_end}
 
 -- the entries of a node above leaves, where a path ends
-abbrev pub end_found : {V : Type 0} → Bor (Node (Leaf V)) → List (ℕ × V)
-end_found f = node_entries leaf_entries 0 f.now
+abbrev pub end_found : {V : Type 0} → Bor (Node1 V) → List (ℕ × V)
+end_found f = entries1 f.now
 
 -- the entries of a node, where f tells those of a child
 abbrev pub node_found : {T F V : Type 0} → (T → List (ℕ × V)) → ℕ → NodeFinger T F → List (ℕ × V)
 node_found f s w = node_entries f s w.node.now
 
 -- the end of a path is sound
-abbrev pub end_path : {V : Type 0} → Bor (Node (Leaf V)) → Type 0
+abbrev pub end_path : {V : Type 0} → Bor (Node1 V) → Type 0
 end_path f = Unit {0}
 
 -- a path into a node is sound where it leads into the child that it says
@@ -27,28 +26,22 @@ node_path P found f w = IsFingerOf P found f w.node.now.slots w.at w.inner
 
 abbrev pub RootFinger : Type 0 → Type 0
 RootFinger V =
-    NodeFinger (Node (Node (Node (Node (Node (Node (Leaf V))))))) (NodeFinger (Node (Node (Node (Node (Node (Leaf V)))))) (NodeFinger (Node (Node (Node (Node (Leaf V))))) (NodeFinger (Node (Node (Node (Leaf V)))) (NodeFinger (Node (Node (Leaf V))) (NodeFinger (Node (Leaf V)) (Bor (Node (Leaf V))))))))
+    NodeFinger (Node6 V) (NodeFinger (Node5 V) (NodeFinger (Node4 V) (NodeFinger (Node3 V) (NodeFinger (Node2 V)
+    (NodeFinger (Node1 V) (Bor (Node1 V)))))))
 
 -- the entries of the root
 abbrev pub root_found : {V : Type 0} → RootFinger V → List (ℕ × V)
-root_found w =
-    node_found (node_entries (node_entries (node_entries (node_entries (node_entries (node_entries leaf_entries 0) 4) 8) 12) 16) 20) 24 w
+root_found w = node_found entries6 24 w
 
 -- a path into the root is sound
 abbrev pub root_sound : {V : Type 0} → RootFinger V → Type 0
 root_sound w =
-    let e1 = node_entries leaf_entries 0 in
-    let e2 = node_entries e1 4 in
-    let e3 = node_entries e2 8 in
-    let e4 = node_entries e3 12 in
-    let e5 = node_entries e4 16 in
-    let e6 = node_entries e5 20 in
-    let p2 = node_path end_path end_found e1 in
-    let p3 = node_path p2 (node_found e1 4) e2 in
-    let p4 = node_path p3 (node_found e2 8) e3 in
-    let p5 = node_path p4 (node_found e3 12) e4 in
-    let p6 = node_path p5 (node_found e4 16) e5 in
-    node_path p6 (node_found e5 20) e6 w
+    let p2 = node_path end_path end_found entries1 in
+    let p3 = node_path p2 (node_found entries1 4) entries2 in
+    let p4 = node_path p3 (node_found entries2 8) entries3 in
+    let p5 = node_path p4 (node_found entries3 12) entries4 in
+    let p6 = node_path p5 (node_found entries4 16) entries5 in
+    node_path p6 (node_found entries5 20) entries6 w
 
 -- the leaf that is kept, if one is, is that of its block in entries es
 abbrev pub IsKeptOf : {V : Type 0} → List (ℕ × V) → Option (BlockLeaf V) → Type 0

@@ -3,7 +3,7 @@ use Rattle.std.specs.Prelude.{◌≡◌, ℕ, ◌/◌, ◌%◌, Option, Some, No
 use Rattle.radix_map.specs.declared.level.Leaf.{Leaf}
 use Rattle.radix_map.specs.Slots.{item_at}
 use Rattle.radix_map.specs.Entries.{part, value_at}
-use Rattle.radix_map.specs.Map.{leaf_entries}
+use Rattle.radix_map.specs.Levels.{leaf_entries}
 
 -- P holds of the walk over a child, if there is one
 abbrev pub inner_sound : {W : Type 0} → (W → Type 0) → Option W → Type 0

@@ -1,6 +1,7 @@
 pub mod Entries
 pub mod Fingers
 pub mod Inner
+pub mod Levels
 pub mod Map
 pub mod Pending
 pub mod Slots

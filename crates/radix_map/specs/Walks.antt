@@ -2,11 +2,11 @@
 use Rattle.std.specs.Prelude.{ℕ, ◌+◌, ◌*◌, ◌^◌, ◌≤◌, Option, Some, None, List, ◌∷◌, ◌++◌}
 use Rattle.std.specs.Borrow.{Bor}
 use Rattle.radix_map.specs.declared.level.Leaf.{Leaf}
-use Rattle.radix_map.specs.declared.level.Node.{Node}
 use Rattle.radix_map.specs.declared.entries.LeafWalk.{LeafWalk}
 use Rattle.radix_map.specs.declared.entries.NodeWalk.{NodeWalk}
 use Rattle.radix_map.specs.Entries.{entries_behind, part, single, keys_end}
-use Rattle.radix_map.specs.Map.{leaf_entries, node_entries}
+use Rattle.radix_map.specs.Levels.{Node1, Node2, Node3, Node4, Node5, Node6, leaf_entries}
+use Rattle.radix_map.specs.Levels.{entries1, entries2, entries3, entries4, entries5, entries6}
 use Rattle.radix_map.specs.Inner.{inner_sound}
 
 -- what is left of a walk over a leaf
@@ -27,18 +27,14 @@ node_sound P s w = (w.base + 16 * 2 ^ (s + 4) ≤ keys_end) × (w.at ≤ 16) × 
 
 abbrev pub RootWalk : Type 0 → Type 0
 RootWalk V =
-    NodeWalk (Node (Node (Node (Node (Node (Node (Leaf V))))))) (NodeWalk (Node (Node (Node (Node (Node (Leaf V)))))) (NodeWalk (Node (Node (Node (Node (Leaf V))))) (NodeWalk (Node (Node (Node (Leaf V)))) (NodeWalk (Node (Node (Leaf V))) (NodeWalk (Node (Leaf V)) (NodeWalk (Leaf V) (LeafWalk V)))))))
+    NodeWalk (Node6 V) (NodeWalk (Node5 V) (NodeWalk (Node4 V) (NodeWalk (Node3 V) (NodeWalk (Node2 V)
+    (NodeWalk (Node1 V) (NodeWalk (Leaf V) (LeafWalk V)))))))
 
 -- what is left of a walk over the root
 abbrev pub root_left : {V : Type 0} → RootWalk V → List (ℕ × V)
 root_left w =
-    let e1 = node_entries leaf_entries 0 in
-    let e2 = node_entries e1 4 in
-    let e3 = node_entries e2 8 in
-    let e4 = node_entries e3 12 in
-    let e5 = node_entries e4 16 in
-    let e6 = node_entries e5 20 in
-    node_left e6 (node_left e5 (node_left e4 (node_left e3 (node_left e2 (node_left e1 (node_left leaf_entries leaf_left 0) 4) 8) 12) 16) 20) 24 w
+    node_left entries6 (node_left entries5 (node_left entries4 (node_left entries3 (node_left entries2 (node_left entries1
+    (node_left leaf_entries leaf_left 0) 4) 8) 12) 16) 20) 24 w
 
 -- a walk over the root stays within the keys
 abbrev pub root_sound : {V : Type 0} → RootWalk V → Type 0

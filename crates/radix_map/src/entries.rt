@@ -5,31 +5,16 @@ ghost use Rattle.std.specs.Prelude.{MatchOption, IfNone, IfSome};
 ghost use Rattle.radix_map.specs.Entries.{raised, entries_from, entries_behind, part, single, block};
 ghost use Rattle.radix_map.specs.Entries.{edited_all, Rises, keys_end};
 ghost use Rattle.radix_map.specs.Pending.{IsPast};
-ghost use Rattle.radix_map.specs.Map.{root_entries};
+ghost use Rattle.radix_map.specs.Levels.{root_entries};
 ghost use Rattle.std.specs.Iterator.{YieldsFirstBy, item_count};
 ghost use Rattle.radix_map.specs.Inner.{inner_sound};
 ghost use Rattle.radix_map.specs.Walks.{root_left, root_sound, behind_first};
 
-use crate::level::{
-    Edit, Leaf, Level, Node, Node1, Node2, Node3, Node4, Node5, Node6, ROOT_SHIFT, Root, slot,
-};
+use crate::level::{Edit, Leaf, Level, Node, slot};
+use crate::levels::{ROOT_SHIFT, Root, RootWalk};
 use crate::pending::{edits_from, set_value};
 use std::cmp::Ordering;
 use std::marker::Model;
-
-type Walk1<'a, V> = NodeWalk<'a, Leaf<V>, LeafWalk<'a, V>>;
-
-type Walk2<'a, V> = NodeWalk<'a, Node1<V>, Walk1<'a, V>>;
-
-type Walk3<'a, V> = NodeWalk<'a, Node2<V>, Walk2<'a, V>>;
-
-type Walk4<'a, V> = NodeWalk<'a, Node3<V>, Walk3<'a, V>>;
-
-type Walk5<'a, V> = NodeWalk<'a, Node4<V>, Walk4<'a, V>>;
-
-type Walk6<'a, V> = NodeWalk<'a, Node5<V>, Walk5<'a, V>>;
-
-type RootWalk<'a, V> = NodeWalk<'a, Node6<V>, Walk6<'a, V>>;
 
 /// The entries of a map that were not yet given, by rising key: those of its tree, and over them
 /// the edits that it has noted.

@@ -4,26 +4,13 @@ ghost use Rattle.std.specs.Prelude.{◌≡◌, ℕ, ◌/◌, ◌%◌, ◌≤◌,
 ghost use Rattle.std.specs.Iterator.{YieldsFirstBy, item_count};
 ghost use Rattle.radix_map.specs.Entries.{value_at, edited_all, node_map, block, part, Rises, keys_end};
 ghost use Rattle.radix_map.specs.Inner.{IsFingerOf, IsLeafOf};
-ghost use Rattle.radix_map.specs.Map.{leaf_entries, root_entries};
+ghost use Rattle.radix_map.specs.Levels.{leaf_entries, root_entries};
 ghost use Rattle.radix_map.specs.Fingers.{root_found, root_sound, IsKeptOf};
 
-use crate::level::{
-    Edit, Leaf, Level, Node, Node1, Node2, Node3, Node4, Node5, Node6, ROOT_SHIFT, Root, slot,
-};
+use crate::level::{Edit, Leaf, Level, Node, slot};
+use crate::levels::{Node1, ROOT_SHIFT, Root, RootFinger};
 use crate::pending::{edit_at, set_value};
 use std::marker::Model;
-
-type Finger2<'a, V> = NodeFinger<'a, Node1<V>, &'a Node1<V>>;
-
-type Finger3<'a, V> = NodeFinger<'a, Node2<V>, Finger2<'a, V>>;
-
-type Finger4<'a, V> = NodeFinger<'a, Node3<V>, Finger3<'a, V>>;
-
-type Finger5<'a, V> = NodeFinger<'a, Node4<V>, Finger4<'a, V>>;
-
-type Finger6<'a, V> = NodeFinger<'a, Node5<V>, Finger5<'a, V>>;
-
-type RootFinger<'a, V> = NodeFinger<'a, Node6<V>, Finger6<'a, V>>;
 
 /// The values at keys that were not yet looked up, in the order of the keys: `None` where a map
 /// has no value. It is cheapest where the keys rise.

@@ -100,24 +100,6 @@ pub(crate) struct Node<L> {
     pub(crate) slots: Slots<L>,
 }
 
-// The nodes of the levels above the leaves, from below.
-pub(crate) type Node1<V> = Node<Leaf<V>>;
-
-pub(crate) type Node2<V> = Node<Node1<V>>;
-
-pub(crate) type Node3<V> = Node<Node2<V>>;
-
-pub(crate) type Node4<V> = Node<Node3<V>>;
-
-pub(crate) type Node5<V> = Node<Node4<V>>;
-
-pub(crate) type Node6<V> = Node<Node5<V>>;
-
-pub(crate) type Root<V> = Node<Node6<V>>;
-
-/// The root places a key by its four highest bits.
-pub(crate) const ROOT_SHIFT: u32 = 28;
-
 impl<V: Drop> Level<V> for Leaf<V> {
     ghost use Rattle.radix_map.specs.Rising.{leaf_rises};
 

@@ -29,6 +29,7 @@ mod entries;
 mod find;
 mod leaf_edits;
 mod level;
+mod levels;
 mod map;
 mod pending;
 mod slots;

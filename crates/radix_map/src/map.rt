@@ -4,11 +4,12 @@ ghost use Rattle.std.specs.Prelude.{◌≡◌, ◌≤◌, [], IfOk, OnOk, OnErr,
 ghost use Rattle.std.specs.Arc.{arc_value};
 ghost use Rattle.radix_map.specs.Entries.{value_at, with_key, without_key, edited_all, entries_from};
 ghost use Rattle.radix_map.specs.Entries.{Rises, keys_end};
-ghost use Rattle.radix_map.specs.Map.{root_entries};
+ghost use Rattle.radix_map.specs.Levels.{root_entries};
 
 use crate::entries::Entries;
 use crate::find::FindAll;
-use crate::level::{Edit, Level, ROOT_SHIFT, Root};
+use crate::level::{Edit, Level};
+use crate::levels::{ROOT_SHIFT, Root};
 use crate::pending::{Note, edit_at, rise, set_value};
 use grid_core::Memory;
 use std::alloc::Global;
@@ -31,7 +32,8 @@ pub struct Map<V> {
 impl<V> Model for Map<V> {
     ghost use Rattle.std.specs.Prelude.{ℕ, List};
     ghost use Rattle.radix_map.specs.Entries.{edited_all};
-    ghost use Rattle.radix_map.specs.Map.{root_entries, IsKept};
+    ghost use Rattle.radix_map.specs.Levels.{root_entries};
+    ghost use Rattle.radix_map.specs.Map.{IsKept};
 
     ghost Value = { List (ℕ × V) };
 

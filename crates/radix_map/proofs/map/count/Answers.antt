@@ -1,6 +1,6 @@
 use Rattle.std.proofs.Common.{inl, ◌≤◌, length, ◌∙◌, subst, sym, arith}
 use Rattle.std.proofs.lemmas.Iterator.Consumers.{count_from_yields_List, YieldsList-from_first}
-use Rattle.radix_map.specs.Map.{root_entries}
+use Rattle.radix_map.specs.Levels.{root_entries}
 use Rattle.radix_map.specs.Entries.{edited_all, keys_end}
 use Rattle.radix_map.proofs.Cuts.{from_zero}
 use Rattle.radix_map.proofs.Roots.{edited_size}

@@ -1,8 +1,8 @@
 use Rattle.std.proofs.Common.{sym, subst, ap, ◌∙◌, arith}
 use Rattle.radix_map.specs.Entries.{Rises, entries_from, edited_all, keys_end}
-use Rattle.radix_map.specs.Map.{root_entries}
+use Rattle.radix_map.specs.Levels.{root_entries}
 use Rattle.radix_map.proofs.Cuts.{from_keeps}
-use Rattle.radix_map.proofs.Halves.{from_edited}
+use Rattle.radix_map.proofs.Laws.{from_edited_all}
 use Rattle.radix_map.proofs.Noted.{fit_from_rises}
 use Rattle.radix_map.proofs.Roots.{root_rises}
 use Rattle.radix_map.proofs.entries.Entries.of.Goals as goal
@@ -22,4 +22,4 @@ returns g c =
     let es = root_entries c.args.root.now in
     let edits = c.args.pending.now in
     ap (λ t. edited_all t c.edits_from.result.now) c.of.ensures ∙ ap (edited_all (entries_from from es)) c.edits_from.ensures
-    ∙ sym (from_edited from es edits (omega (arith, c.ranges.from.fits)) (root_rises c.args.root.now) (fit_from_rises 0 edits c.requires))
+    ∙ sym (from_edited_all from es edits (omega (arith, c.ranges.from.fits)) (root_rises c.args.root.now) (fit_from_rises 0 edits c.requires))

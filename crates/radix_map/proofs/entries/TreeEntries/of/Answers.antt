@@ -1,6 +1,6 @@
 use Rattle.std.proofs.Common.{ap, ◌∙◌}
 use Rattle.std.proofs.Math.Nat.{mod-eq_of_lt}
-use Rattle.radix_map.specs.Map.{root_entries}
+use Rattle.radix_map.specs.Levels.{root_entries}
 use Rattle.radix_map.specs.Entries.{entries_from}
 use Rattle.radix_map.proofs.Walks.{raised_zero}
 use Rattle.radix_map.proofs.entries.TreeEntries.of.Goals as goal

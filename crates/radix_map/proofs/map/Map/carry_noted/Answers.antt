@@ -1,5 +1,5 @@
 use Rattle.std.proofs.Common.{length, ap, sym, ◌∙◌, arith}
-use Rattle.radix_map.specs.Map.{root_entries}
+use Rattle.radix_map.specs.Levels.{root_entries}
 use Rattle.radix_map.proofs.Roots.{root_carried, root_part, part_rises, no_edits, none_rise}
 use Rattle.radix_map.proofs.map.Map.carry_noted.Goals as goal
 

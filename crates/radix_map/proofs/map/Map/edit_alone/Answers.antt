@@ -1,5 +1,5 @@
 use Rattle.std.proofs.Common.{length, ap, sym, ◌∙◌, refl, arith}
-use Rattle.radix_map.specs.Map.{root_entries}
+use Rattle.radix_map.specs.Levels.{root_entries}
 use Rattle.radix_map.specs.Entries.{edited_all}
 use Rattle.radix_map.proofs.Roots.{root_size, root_edited, no_edits}
 use Rattle.radix_map.proofs.map.Map.edit_alone.Goals as goal

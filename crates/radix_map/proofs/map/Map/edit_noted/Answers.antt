@@ -1,5 +1,5 @@
 use Rattle.std.proofs.Common.{length, ap, sym, ◌∙◌, subst, arith}
-use Rattle.radix_map.specs.Map.{root_entries}
+use Rattle.radix_map.specs.Levels.{root_entries}
 use Rattle.radix_map.specs.Entries.{Rises, edited_all, keys_end}
 use Rattle.radix_map.specs.Rising.{rises-length}
 use Rattle.radix_map.proofs.Noted.{edited_plainly, rises_plainly}

@@ -1,5 +1,5 @@
 use Rattle.std.proofs.Common.{◌≡◌, option_copied, ap, subst, ◌∙◌, rules}
-use Rattle.radix_map.specs.Map.{root_entries}
+use Rattle.radix_map.specs.Levels.{root_entries}
 use Rattle.radix_map.specs.Entries.{value_at, Rises, keys_end}
 use Rattle.radix_map.proofs.Roots.{found_set, found_below, root_rises, noted_rise}
 use Rattle.radix_map.proofs.map.Map.get.Goals as goal

@@ -1,5 +1,5 @@
 use Rattle.std.proofs.Common.{length, ap, sym, ◌∙◌}
-use Rattle.radix_map.specs.Map.{root_entries}
+use Rattle.radix_map.specs.Levels.{root_entries}
 use Rattle.radix_map.proofs.Roots.{no_edits, none_rise}
 use Rattle.radix_map.proofs.map.Map.open.Goals as goal
 
