@@ -20,10 +20,10 @@ pub(crate) struct HalfEdge {
 }
 
 impl Model for HalfEdge {
-    ghost use Rattle.grid_core.specs.Contours.{HalfEdge as Directed};
+    ghost use Rattle.grid_core.specs.Contours as contours;
     ghost use Rattle.face_trace.specs.HalfEdge.{IsWithinReach};
 
-    ghost Value = { Directed };
+    ghost Value = { contours.HalfEdge };
 
     ghost view = { λ h. record { origin = h.origin; target = h.target } };
 
