@@ -1,5 +1,5 @@
 -- Lists of seats: a seat put in place of another, and seats that hold what they held.
-use Rattle.std.proofs.Common.{◌≡◌, ◌≢◌, refl, sym, ap, subst, ◌∙◌, arith, ℕ, zero, suc, ◌+◌, ◌<◌, ◌≤◌, ◌⊎◌, inl, inr, true≢false, is_some, false, is_err, OnOk, OnErr, Result, Ok, Err, List, [], ◌∷◌, length, set, get_or, get_or-set_same, get_or-set_other, Some}
+use Rattle.std.proofs.Common.{◌≡◌, ◌≢◌, refl, sym, ap, subst, ◌∙◌, arith, ℕ, zero, suc, ◌<◌, ◌≤◌, ◌⊎◌, inl, inr, true≢false, is_some, false, is_err, OnOk, OnErr, Result, Ok, Err, List, [], ◌∷◌, length, set, get_or, get_or-set_same, get_or-set_other, Some}
 use Rattle.std.specs.Prelude.{unwrap_or}
 use Rattle.std.proofs.lemmas.List.{length-set}
 use Rattle.book_core.specs.Book.{BookState}

@@ -15,13 +15,13 @@ use Rattle.hot_tile.specs.Tile.{segment_in}
 use Rattle.version_core.specs.declared.change.Edit.TheVariants.{Insert as PutIn, Delete as TakeOut}
 use Rattle.version_core.specs.Edits.{Changes, inserted_names}
 use Rattle.version_core.specs.History.{live, given_names}
-use Rattle.version_core.specs.Stands.{PreparedChange, Stands}
+use Rattle.version_core.specs.Stands.{PreparedChange}
 use Rattle.version_core.specs.Version.{VersionState}
 use Rattle.version_core.proofs.Found.{segment_there, segment_listed}
 use Rattle.version_core.proofs.Histories.{live_names}
 use Rattle.seg_edit.specs.Prepared.{IsPreparedOn}
 use Rattle.book_core.specs.Book.{BookState, IsBook}
-use Rattle.book_core.specs.Commit.{MayCommit}
+use Rattle.book_core.proofs.Waiting.{may_commit_on}
 use Rattle.script_read.specs.declared.command.Act.TheVariants.{Insert, Delete}
 use Rattle.script_read.specs.declared.reply.Refusal.TheVariants.{Busy, Unknown}
 use Rattle.script_read.specs.declared.reply.Said.TheVariants.{Ready, Refused}
@@ -87,20 +87,6 @@ not_live b own s seat v held u p q drawn c =
     (subst (λ w. Contains (names (VersionState.live w)) (next_label own s.serial)) held
     (subst (Contains (names v.live)) (ap (λ (w : Segment). w.name) drawn ∙ segment_named (next_label own s.serial) p q) c)))
 
--- what was prepared on a version of the book may be committed, where the names that it inserts are new
-may_commit : (b : BookState) (v : VersionState) → IsVersionOf b v → (x : PreparedChange) → IsPreparedOn v x
-    → ((n : Label) → Contains (inserted_names x.change.edits) n → Contains (given_names b.history) n → ⊥)
-    → MayCommit b x
-may_commit b v is x on new =
-    let at = on.base in
-    let few = is.number in
-    record {
-      profile = on.profile ∙ is.profile;
-      based = omega (arith, at, few);
-      stands = subst (λ k. Stands x (live_at b.history k)) (sym at) (subst (Stands x) is.live on.stands);
-      new = new;
-    }
-
 -- ---- acts
 
 -- what is no `Some` is `None`
@@ -120,7 +106,7 @@ inserted b own s p q seat free v held pr sizes room u drawn x change prepared n 
       seat = record {
         held = seat.held;
         prepared = record {
-          may = may_commit b (held_version b s.held) seat.held x on
+          may = may_commit_on b (held_version b s.held) x seat.held.profile seat.held.number seat.held.live on
               (λ m c given. not_given b own s seat (subst (Contains (given_names b.history)) (own_name m c) given));
           given = λ m c. let one = own_name m c in
               record { editor = ap (λ l. l.editor) one; serial = (let e = ap (λ l. l.serial) one in omega (arith, e, up)) };
@@ -223,7 +209,7 @@ deleted b own s name seat free v held there x change prepared =
           seat = record {
             held = seat.held;
             prepared = record {
-              may = may_commit b (held_version b s.held) seat.held x on (λ m c given. none_new m c);
+              may = may_commit_on b (held_version b s.held) x seat.held.profile seat.held.number seat.held.live on (λ m c given. none_new m c);
               given = λ m c. absurd (none_new m c);
             };
             serials = seat.serials;

@@ -1,22 +1,24 @@
 -- The machine after a commit that the book took: the editor holds the newest version, and all others hold
 -- what they held, of which each has a share.
-use Rattle.std.proofs.Common.{◌≡◌, ◌≢◌, refl, sym, ap, subst, ◌∙◌, arith, ℕ, zero, suc, ◌+◌, ◌-◌, ◌<◌, ◌≤◌, ◌⊎◌, inl, inr, true≢false, is_some, List, [], ◌∷◌, ◌++◌, length, map, set, take, get_or, length-append, length-set, get_or-set_same, get_or-set_other, Contains, Option, Some, None, IfSome}
+use Rattle.std.proofs.Common.{◌≡◌, ◌≢◌, sym, ap, subst, ◌∙◌, arith, ℕ, ◌+◌, ◌-◌, ◌<◌, ◌≤◌, ◌⊎◌, inl, inr, true≢false, is_some, List, [], ◌∷◌, ◌++◌, length, map, set, get_or, length-append, length-set, get_or-set_same, get_or-set_other, Contains, Option, Some, None, IfSome}
 use Rattle.std.specs.Prelude.{option_map, unwrap_or}
 use Rattle.std.proofs.lemmas.List.{same_lists, length-map, get_or-map}
-use Rattle.std.proofs.lemmas.List.Elements.{Contains-append_cases, Contains-append_left, Contains-append_right}
+use Rattle.std.proofs.lemmas.List.Elements.{Contains-append_cases}
+use Rattle.std.proofs.lemmas.Grind.{flat_map-append}
 use Rattle.grid_core.specs.Name.{Label}
 use Rattle.version_core.specs.Edits.{Changes, inserted_names}
-use Rattle.version_core.specs.History.{live, given_names}
-use Rattle.version_core.specs.Stands.{PreparedChange, Stands}
+use Rattle.version_core.specs.History.{given_names}
+use Rattle.version_core.specs.Stands.{PreparedChange}
 use Rattle.version_core.specs.Version.{VersionState}
 use Rattle.book_core.specs.Book.{BookState, IsBook}
 use Rattle.book_core.specs.Commit.{Took, refusal_of}
+use Rattle.book_core.proofs.Waiting.{live_later, still_may_commit}
 use Rattle.script_read.specs.declared.command.Act.TheVariants.{Commit as MakeCommit}
 use Rattle.script_read.specs.declared.reply.Said.TheVariants.{Commit}
 use Rattle.session_core.specs.declared.seat.Held.{Held}
 use Rattle.session_core.specs.declared.seat.Held.TheVariants.{Newest, Older}
 use Rattle.session_core.specs.declared.seat.Seat.{Seat}
-use Rattle.session_core.specs.Machine.{Session, editors}
+use Rattle.session_core.specs.Machine.{Session, editors, live_at}
 use Rattle.session_core.specs.Step.{Outcome, committing, committed, after_commit, after_outcome}
 use Rattle.session_core.specs.World.{held_version, shared_version, based_change, session_in, state_in, world_of, IsVersionOf, IsGivenTo, IsOfEditor, IsSeat, new_seat, IsWorld, IsShare, AreKept, outcome_at, DidAt}
 use Rattle.session_core.proofs.Seats.{newest_is}
@@ -25,22 +27,16 @@ use Rattle.session_core.proofs.Worlds.{IsAt, within, seat_at, own_may, commit_co
 
 -- ---- a history with a change more
 
-take_push : (k : ℕ) (h : List Changes) (x : Changes) → k ≤ length h → take k (h ++ x ∷ []) ≡ take k h
-take_push zero h x few = refl
-take_push (suc k) [] x few = absurd (omega (arith, few))
-take_push (suc k) (y ∷ h) x few = ap (λ g. y ∷ g) (take_push k h x (omega (arith, few)))
-
 -- a name that was given then was given before, or by the change
 given_push : (h : List Changes) (x : Changes) (n : Label) → Contains (given_names (h ++ x ∷ [])) n
     → Contains (given_names h) n ⊎ Contains (inserted_names x.edits) n
-given_push [] x n c =
-    elim (Contains-append_cases (inserted_names x.edits) [] n c) [ inl own ↦ inr own | inr none ↦ absurd (omega (arith, none.1)) ]
-given_push (y ∷ h) x n c =
-    elim (Contains-append_cases (inserted_names y.edits) (given_names (h ++ x ∷ [])) n c) [
-      | inl first ↦ inl (Contains-append_left (inserted_names y.edits) (given_names h) n first)
-      | inr later ↦ elim (given_push h x n later) [
-        | inl old ↦ inl (Contains-append_right (inserted_names y.edits) (given_names h) n old)
-        | inr own ↦ inr own
+given_push h x n c =
+    elim (Contains-append_cases (given_names h) (given_names (x ∷ [])) n
+    (subst (λ ms. Contains ms n) (flat_map-append (λ y. inserted_names y.edits) h (x ∷ [])) c)) [
+      | inl old ↦ inl old
+      | inr last ↦ elim (Contains-append_cases (inserted_names x.edits) [] n last) [
+        | inl own ↦ inr own
+        | inr none ↦ absurd (omega (arith, none.1))
       ]
     ]
 
@@ -63,31 +59,17 @@ version_later b own last x c grew v is =
       number = omega (arith, long, few);
       profile = is.profile ∙ sym grew.took.version.profile;
       branded = is.branded ∙ sym grew.took.version.brand;
-      live = is.live ∙ sym (ap live (ap (take v.number) grew.took.history ∙ take_push v.number b.history x few));
+      live = is.live ∙ sym (ap (λ g. live_at g v.number) grew.took.history ∙ live_later b.history x v.number few);
     }
 
 -- another editor's prepared change may be committed later too
 may_later : (b : BookState) (own last : ℕ) (x : Changes) (c : BookState) → Grew b own last x c
     → (other most : ℕ) → other ≢ own → (y : PreparedChange) → IsOfEditor b other most y → IsOfEditor c other most y
 may_later b own last x c grew other most apart y is =
-    let long = longer b own last x c grew in
-    let few = is.may.based in
     record {
-      may = record {
-        profile = is.may.profile ∙ sym grew.took.version.profile;
-        based = omega (arith, long, few);
-        stands =
-            subst (λ g. Stands y (live g)) (sym (ap (take y.base) grew.took.history ∙ take_push y.base b.history x few))
-            is.may.stands;
-        new = λ n k given. by n k (given_push b.history x n (subst (λ g. Contains (given_names g) n) grew.took.history given));
-      };
+      may = still_may_commit b c x y grew.took is.may (λ n k new. apart (sym (is.given n k).editor ∙ (grew.given n new).editor));
       given = is.given;
     }
-  where
-    by : (n : Label) → Contains (inserted_names y.change.edits) n
-        → Contains (given_names b.history) n ⊎ Contains (inserted_names x.edits) n → ⊥
-    by n k (inl old) = is.may.new n k old
-    by n k (inr new) = apart (sym (is.given n k).editor ∙ (grew.given n new).editor)
 
 -- the serials of another editor are as before
 serials_later : (b : BookState) (own last : ℕ) (x : Changes) (c : BookState) → Grew b own last x c

@@ -132,11 +132,11 @@ pub record AreAlike (b : BookState) (old new : List Seat) : Type 0 where
   pub all : length new ≡ length old
   pub each : (i : ℕ) → i < length old → IsAlike b (slice_index_or old i new_seat) (slice_index_or new i new_seat)
 
--- seat i is as before, and each other has a share of the version that its editor held
-pub record AreKept (b : BookState) (own : ℕ) (old new : List Seat) : Type 0 where
+-- the seat at this index is as before, and each other has a share of the version that its editor held
+pub record AreKept (b : BookState) (at : ℕ) (old new : List Seat) : Type 0 where
   pub all : length new ≡ length old
-  pub others : (i : ℕ) → i < length old → i ≢ own → IsShare b (slice_index_or old i new_seat) (slice_index_or new i new_seat)
-  pub same : slice_index_or new own new_seat ≡ slice_index_or old own new_seat
+  pub others : (i : ℕ) → i < length old → i ≢ at → IsShare b (slice_index_or old i new_seat) (slice_index_or new i new_seat)
+  pub same : slice_index_or new at new_seat ≡ slice_index_or old at new_seat
 
 -- what comes of an editor's act at the machine
 abbrev pub outcome_at : WorldState → ℕ → Act → Outcome

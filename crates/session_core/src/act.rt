@@ -169,6 +169,7 @@ impl Seat {
     {
         let version = self.held.version(book);
         let live = version.segments(&mut tools.looked)?;
+        // The call tells that the segments are a live list, as `round` asks.
         let _ = version.count();
         let picture = round(tools.alloc, &live)?;
         let text = arrangement_text(tools.alloc, version.number(), &picture)?;

@@ -33,7 +33,9 @@ impl Held {
 /// What the machine keeps of an editor.
 #[derive(Drop)]
 pub(crate) struct Seat {
+    /// The version on which the editor prepares, and of which its queries tell.
     pub(crate) held: Held,
+    /// The change that the editor has prepared and not yet committed.
     pub(crate) prepared: Option<Prepared>,
     /// The last serial that the editor was given, 0 where none was.
     pub(crate) serial: u16,

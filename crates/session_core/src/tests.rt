@@ -64,12 +64,18 @@ fn drawn(rt: &impl Abort, world: &mut World, ends: [i64; 4]) -> Result<Said, Mem
     told(rt, world, 1, Act::Commit)
 }
 
+/// Sees that a segment is inserted and committed.
+fn see_drawn(rt: &impl Abort, world: &mut World, ends: [i64; 4]) -> Result<(), Memory> {
+    let said = drawn(rt, world, ends)?;
+    assert!(rt; matches!(said, Said::Commit { .. }));
+    Ok(())
+}
+
 #[test]
 fn limits_a_segments(rt: HostRuntime) -> Result<(), Fail> {
     let mut world = World::open(rt.alloc(), Profile::edition_one())?;
     for k in 0..4096 {
-        let said = drawn(&rt, &mut world, [0, k, 1, k])?;
-        assert!(&rt; matches!(said, Said::Commit { .. }));
+        see_drawn(&rt, &mut world, [0, k, 1, k])?;
     }
     let said = drawn(&rt, &mut world, [0, 4096, 1, 4096])?;
     assert!(&rt;
@@ -88,8 +94,7 @@ fn limits_b_spans(rt: HostRuntime) -> Result<(), Fail> {
     let mut world = World::open(rt.alloc(), Profile::edition_one())?;
     for k in 0..511_u16 {
         let y = 32 * i64::from(k);
-        let said = drawn(&rt, &mut world, [-1_048_576, y, 1_048_576, y])?;
-        assert!(&rt; matches!(said, Said::Commit { .. }));
+        see_drawn(&rt, &mut world, [-1_048_576, y, 1_048_576, y])?;
     }
     let said = drawn(&rt, &mut world, [-1_048_576, 16_352, 1_048_576, 16_352])?;
     assert!(&rt;
@@ -108,10 +113,8 @@ fn limits_c_passes(rt: HostRuntime) -> Result<(), Fail> {
     let mut world = World::open(rt.alloc(), Profile::edition_one())?;
     for k in 1..1448_u16 {
         let at = 16 * i64::from(k);
-        let said = drawn(&rt, &mut world, [0, at, 23_168, at])?;
-        assert!(&rt; matches!(said, Said::Commit { .. }));
-        let said = drawn(&rt, &mut world, [at, 0, at, 23_168])?;
-        assert!(&rt; matches!(said, Said::Commit { .. }));
+        see_drawn(&rt, &mut world, [0, at, 23_168, at])?;
+        see_drawn(&rt, &mut world, [at, 0, at, 23_168])?;
     }
     let said = drawn(&rt, &mut world, [0, 23_160, 23_168, 23_160])?;
     assert!(&rt;

@@ -16,6 +16,7 @@ pub(crate) struct Tools {
 }
 
 impl Tools {
+    /// The looks that a book was opened with, and scratch of which nothing is used yet.
     pub(crate) fn new(alloc: Global, looked: Looked) -> Tools
         ensures { result.looked ≡ looked }
     {

@@ -45,7 +45,7 @@ impl Model for World {
 
 impl World {
     /// The machine at its start: no change was made, each editor holds version 0, and nothing is
-    /// prepared.
+    /// prepared. `Memory` where there is none for the first version or for the 64 seats.
     pub fn open(alloc: Global, profile: Profile) -> Result<World, Memory>
         ensures { IfOk result (λ w. w ≡ record { profile = profile; state = start }) }
     {
@@ -63,6 +63,7 @@ impl World {
         ensures history { result.now.history ≡ self.now.state.history }
         ensures kept { IsBook result.now }
     {
+        // The call hands on what a book keeps of its history and its version.
         let _ = self.book.newest();
         &self.book
     }
@@ -79,12 +80,20 @@ impl World {
             (λ r. r ≡ (step self.old.profile self.old.state command.now).1) }
         ensures memory { OnErr result (self.new ≡ self.old) }
     {
+        self.forget();
         let editor = command.editor;
         let said = match command.act {
             Act::Commit => self.commit(editor)?,
             _ => self.act(editor, &command.act)?,
         };
         Ok(Reply { editor, said })
+    }
+
+    /// Forgets what the step before has read.
+    fn forget(&mut self)
+        ensures { self.new ≡ self.old }
+    {
+        self.tools.clear();
     }
 
     /// Does an act of an editor that isn't a commit, and tells what is said.
@@ -97,9 +106,8 @@ impl World {
         ensures did { IfOk result (DidAt editor act.now self.old self.new) }
         ensures memory { OnErr result (self.new ≡ self.old) }
     {
-        self.tools.clear();
-        let own = usize::from(editor) - 1;
-        self.seats[own].act(&self.book, editor, act, &mut self.tools)
+        let at = usize::from(editor) - 1;
+        self.seats[at].act(&self.book, editor, act, &mut self.tools)
     }
 
     /// Commits the change that an editor has prepared, and tells what is said.
@@ -110,8 +118,8 @@ impl World {
         ensures did { IfOk result (DidAt editor Commit self.old self.new) }
         ensures memory { OnErr result (self.new ≡ self.old) }
     {
-        let own = usize::from(editor) - 1;
-        let seat = &mut self.seats[own];
+        let at = usize::from(editor) - 1;
+        let seat = &mut self.seats[at];
         let Some(prepared) = seat.prepared.take() else {
             return Ok(Said::Nothing);
         };
@@ -120,11 +128,11 @@ impl World {
         }
         let serial = seat.serial;
         let held = mem::replace(&mut seat.held, Held::Newest);
-        match append(&mut self.book, &mut self.seats, own, prepared) {
+        match append(&mut self.book, &mut self.seats, at, prepared) {
             Ok(number) => Ok(Said::Commit { number }),
             Err(prepared) => {
                 let prepared = Some(prepared);
-                self.seats[own] = Seat {
+                self.seats[at] = Seat {
                     held,
                     prepared,
                     serial,
@@ -141,17 +149,17 @@ impl World {
 fn append(
     book: &mut Book,
     seats: &mut [Seat],
-    own: usize,
+    at: usize,
     prepared: Prepared,
 ) -> Result<u32, Prepared>
-    requires own { own < length seats.old }
-    requires newest { (slice_index_or seats.old own new_seat).held ≡ Newest }
+    requires at { at < length seats.old }
+    requires newest { (slice_index_or seats.old at new_seat).held ≡ Newest }
     requires may { MayCommit book.old prepared }
     requires unrefused { refusal_of book.old prepared ≡ None }
     ensures book { OnOk result (IsBook book.new) }
     ensures took { OnOk result (Took book.old prepared.change book.new) }
     ensures number { IfOk result (λ n. n ≡ length book.new.history) }
-    ensures kept { OnOk result (AreKept book.old own seats.old seats.new) }
+    ensures kept { OnOk result (AreKept book.old at seats.old seats.new) }
     ensures same { OnErr result (book.new ≡ book.old) }
     ensures alike { OnErr result (AreAlike book.old seats.old seats.new) }
     ensures back { IfErr result (λ x. x ≡ prepared) }
@@ -159,7 +167,7 @@ fn append(
     if keep_all(book, seats).is_err() {
         return Err(prepared);
     }
-    seats[own].held = Held::Newest;
+    seats[at].held = Held::Newest;
     book.append(prepared)
 }
 

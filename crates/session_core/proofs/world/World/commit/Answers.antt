@@ -9,13 +9,13 @@ use Rattle.session_core.proofs.world.World.commit.Goals as goal
 use Rattle.session_core.proofs.world.World.commit.Goals.{After-index_mut-seat, In-Some, In-Ok, In-Err, in-Older-2, in-Newest-2}
 
 at : (c : After-index_mut-seat)
-    → IsAt c.self.inside.tools.looked.brand c.self.inside.book c.self.inside.seats.items c.args.editor c.from-own.result c.index_mut-seat.result.now
+    → IsAt c.self.inside.tools.looked.brand c.self.inside.book c.self.inside.seats.items c.args.editor c.from-at.result c.index_mut-seat.result.now
 at c =
     record {
       world = c.self.invariant;
       some = c.requires.first;
       few = c.requires.last;
-      same = c.from-own.ensures;
+      same = c.from-at.ensures;
       there = c.index_mut-seat.ensures.value;
     }
 
@@ -39,7 +39,7 @@ invariant_of-self-in-Some-refusal c =
 pub returns-in-Some-refusal-clause-did : goal.returns-in-Some-refusal-clause-did
 returns-in-Some-refusal-clause-did c =
     let after = world_of c.self.inside.book
-    (set c.self.inside.seats.items (c.from-own.result - 1) (record c.index_mut-seat.result.now { prepared = c.take.new.self })) in
+    (set c.self.inside.seats.items (c.from-at.result - 1) (record c.index_mut-seat.result.now { prepared = c.take.new.self })) in
     subst (λ w. DidAt c.args.editor Commit w after c.refused.result) c.self.view_is
     (subst (DidAt c.args.editor Commit (world_of c.self.inside.book c.self.inside.seats.items) after) (sym c.refused.ensures)
     (acted _ c.self.inside.book c.self.inside.seats.items c.args.editor _ _ (at (goal.at.returns-in-Some-refusal-clause-did c).After-index_mut-seat) Commit _ _
@@ -50,7 +50,7 @@ pub append-requires-clause-may : goal.append-requires-clause-may
 append-requires-clause-may c = (own_may _ c.args.editor _ c.in-Some.prepared (seat (goal.at.append-requires-clause-may c).After-index_mut-seat) (prepared (goal.at.append-requires-clause-may c).In-Some)).may
 
 taken : (c : In-Ok)
-    → IsTaken c.self.inside.tools.looked.brand c.self.inside.book c.self.inside.seats.items c.args.editor c.from-own.result
+    → IsTaken c.self.inside.tools.looked.brand c.self.inside.book c.self.inside.seats.items c.args.editor c.from-at.result
     c.index_mut-seat.result.now c.in-Some.prepared c.append.new.book c.append.new.seats
 taken c =
     record {
@@ -58,16 +58,16 @@ taken c =
         world = c.self.invariant;
         some = c.requires.first;
         few = c.requires.last;
-        same = c.from-own.ensures;
+        same = c.from-at.ensures;
         there = c.index_mut-seat.ensures.value;
       };
       prepared = sym c.take.ensures.value ∙ c.in-Some.is;
       unrefused = sym c.refusal.ensures ∙ c.in_default-refusal.is;
       took = c.in-Ok.ensures.took;
       book = c.in-Ok.ensures.book;
-      kept = subst (λ mid. AreKept c.self.inside.book (c.from-own.result - 1) mid c.append.new.seats)
+      kept = subst (λ mid. AreKept c.self.inside.book (c.from-at.result - 1) mid c.append.new.seats)
           (c.deref_mut.ensures.value
-          ∙ (λ i. set c.self.inside.seats.items (c.from-own.result - 1)
+          ∙ (λ i. set c.self.inside.seats.items (c.from-at.result - 1)
           (record c.index_mut-seat.result.now { held = c.replace-held.ensures.after i; prepared = c.take.ensures.after i })))
           c.in-Ok.ensures.kept;
     }
@@ -107,15 +107,15 @@ returns-in-Ok-clause-did c =
 
 alike : (c : In-Err)
     → AreAlike c.self.inside.book c.self.inside.seats.items
-    (set c.append.new.seats (c.from-own.result - 1)
+    (set c.append.new.seats (c.from-at.result - 1)
     (record c.index_mut-seat.result.now { held = c.replace-held.result; prepared = Some c.in-Err.prepared }))
 alike c =
-    restored c.self.inside.tools.looked.brand c.self.inside.book c.self.inside.seats.items c.args.editor c.from-own.result
+    restored c.self.inside.tools.looked.brand c.self.inside.book c.self.inside.seats.items c.args.editor c.from-at.result
     c.index_mut-seat.result.now (record {
       world = c.self.invariant;
       some = c.requires.first;
       few = c.requires.last;
-      same = c.from-own.ensures;
+      same = c.from-at.ensures;
       there = c.index_mut-seat.ensures.value;
     })
     c.deref_mut.result.now c.append.new.seats _ _ c.deref_mut.ensures.value c.in-Err.ensures.alike
@@ -127,12 +127,12 @@ alike c =
 -- the seats as they are in the end
 abbrev put_back : In-Err → List Seat → List Seat
 put_back c rest =
-    set (take c.self.inside.seats.len (c.append.new.seats ++ rest)) (c.from-own.result - 1)
+    set (take c.self.inside.seats.len (c.append.new.seats ++ rest)) (c.from-at.result - 1)
     (record c.index_mut-seat.result.now { held = c.replace-held.result; prepared = Some c.in-Err.prepared })
 
 alike_back : (c : In-Err) (rest : List Seat) → AreAlike c.self.inside.book c.self.inside.seats.items (put_back c rest)
 alike_back c rest =
-    subst (λ us. AreAlike c.self.inside.book c.self.inside.seats.items (set us (c.from-own.result - 1)
+    subst (λ us. AreAlike c.self.inside.book c.self.inside.seats.items (set us (c.from-at.result - 1)
     (record c.index_mut-seat.result.now { held = c.replace-held.result; prepared = Some c.in-Err.prepared })))
     (sym (whole c.self.inside.seats.len c.append.new.seats rest (sym (c.in-Err.ensures.alike.all ∙ c.deref_mut.ensures.len))))
     (alike c)
