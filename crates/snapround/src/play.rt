@@ -52,6 +52,7 @@ impl Status {
 }
 
 /// Runs the program on its words, those after its name. The one word `play` is all that it takes.
+/// Gives the number that the program ends with: 2 for other words, and else that of `play`.
 pub fn top<S: Source, K: Sink>(alloc: Global, words: &[String], source: &mut S, sink: &mut K) -> u8
     ensures words { (result ≡ 2) ↔ (is_play (map string_bytes words.now) ≡ false) }
     ensures played { is_play (map string_bytes words.now) ≡ true → Played result
@@ -81,6 +82,10 @@ fn is_play(words: &[String]) -> bool
 
 /// Reads the whole input, answers its lines in order, and shuts the sink.
 /// Each reply is handed to the sink in one piece.
+///
+/// Gives 0 where all lines were answered and none was bad, 1 where some line was bad, 3 where the source
+/// failed, 4 where the sink failed, 5 where the input is longer than 16,777,216 bytes, and 6 where there
+/// was no memory. At 4 and 6 the sink has a prefix of the output.
 pub fn play<S: Source, K: Sink>(alloc: Global, source: &mut S, sink: &mut K) -> u8
     ensures played { Played result
         (outside (S.left source.old) (S.faults source.old)

@@ -122,7 +122,7 @@ fn push_committed(
 
 // A grid of 1,447 by 1,447 lines, 16 pixels apart: 4,193,406 passes; one line more has 2,896.
 #[test]
-fn limits_of_passes(rt: HostRuntime) -> Result<(), Fail> {
+fn limits_c_passes(rt: HostRuntime) -> Result<(), Fail> {
     let alloc = rt.alloc();
     let mut input = Vec::new(alloc);
     let mut output = Vec::new(alloc);
