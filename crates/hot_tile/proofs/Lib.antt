@@ -12,6 +12,7 @@ pub mod Parted
 pub mod PathLaws
 pub mod Removal
 pub mod RowLaws
+pub mod RunLaws
 pub mod ShrunkRows
 pub mod ShrunkSpots
 pub mod SmallSpots

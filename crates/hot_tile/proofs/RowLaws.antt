@@ -4,7 +4,7 @@ use Rattle.std.proofs.Common.{◌≡◌, refl, ap, sym, ◌∙◌, ℕ, zero, su
 use Rattle.std.specs.Prelude.{sum_by, ◌⊎◌}
 use Rattle.std.proofs.lemmas.List.{take-append-le, drop-append-le, drop-drop, take_all, length-take}
 use Rattle.std.proofs.lemmas.List.Sums.{sum_by-cons}
-use Rattle.hot_tile.specs.Rows.{cut, AreEnds}
+use Rattle.hot_tile.specs.Rows.{cut, AreEnds, start_at}
 
 -- the ends don't come before the first
 pub ends_rise : (from : ℕ) (es : List ℕ) (n : ℕ) → AreEnds from es n → from ≤ n
@@ -40,12 +40,8 @@ sum-cut from (e ∷ es) ws h =
       h.0,
     )
 
--- the end before the one at i, or where all begins
-abbrev pub start_at : ℕ → List ℕ → ℕ → ℕ
-start_at from es zero = from
-start_at from es (suc i) = get_or es i 0
-
-start_before : (from e : ℕ) (es : List ℕ) (n i : ℕ) → from ≤ e → AreEnds e es n → i < suc (length es)
+-- the start of a list behind the first
+pub start_before : (from e : ℕ) (es : List ℕ) (n i : ℕ) → from ≤ e → AreEnds e es n → i < suc (length es)
     → (start_at from (e ∷ es) (suc i) ≡ start_at e es i) × (e ≤ start_at e es i)
 start_before from e es n zero h a lt = (refl, omega arith)
 start_before from e es n (suc i) h a lt = (refl, (end_within e es n i a (omega (arith, lt))).0)
@@ -69,7 +65,7 @@ row_read from (e ∷ es) ws (suc i) h lt =
     ∙ ap (λ k. take (get_or es i 0 - start_at e es i) (drop k ws)) further
     ∙ ap (λ k. take (get_or es i 0 - k) (drop (start_at from (e ∷ es) (suc i) - from) ws)) (sym first.0)
 
-nothing : (ws : List ℕ) → length ws ≡ 0 → ws ≡ []
+pub nothing : (ws : List ℕ) → length ws ≡ 0 → ws ≡ []
 nothing [] e = refl
 nothing (w ∷ ws) e = absurd (omega (arith, e))
 

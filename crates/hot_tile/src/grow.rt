@@ -6,7 +6,7 @@ use crate::listed::index_of;
 use crate::own::count_own;
 use crate::rows::Rows;
 use crate::spots::{Spot, merge};
-use crate::steps::{grow_row, make_row};
+use crate::steps::{first_met, grow_row, make_row};
 use crate::tile::HotPart;
 use crate::{Scratch, Tile};
 use grid_core::{Memory, Ur};
@@ -104,7 +104,8 @@ impl Tile {
     }
 
     /// Puts the passes of the segments from one index to another behind the rows, with those through
-    /// the pixels that became hot.
+    /// the pixels that became hot. Rows of neighbours that meet none of these are copied in one run,
+    /// which begins at `kept`.
     fn grow_between(
         &self,
         from: usize,
@@ -121,14 +122,17 @@ impl Tile {
     {
         let segments = self.segments();
         let frame = self.frame();
+        let mut kept = from;
         for i in from..to {
-            if fresh.is_empty() {
-                rows.push(self.row(i))?;
-            } else {
-                grow_row(row, &frame, &segments[i], self.row(i), fresh)?;
+            let first = first_met(&frame, &segments[i], fresh);
+            if first < fresh.len() {
+                self.keep_between(kept, i, rows)?;
+                grow_row(row, &frame, &segments[i], self.row(i), &fresh[first..])?;
                 rows.push(row)?;
+                kept = i + 1;
             }
         }
+        self.keep_between(kept, to, rows)?;
         Ok(())
     }
 }

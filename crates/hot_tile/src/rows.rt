@@ -1,5 +1,9 @@
 //! Lists of numbers, one behind the other in one vector.
 
+ghost use Rattle.std.specs.Prelude.{◌≡◌, ◌<◌, ◌≤◌, ◌+◌, ◌-◌, ◌^◌, ◌++◌, length, map, All};
+ghost use Rattle.std.specs.Vec.{vec_capacity};
+ghost use Rattle.hot_tile.specs.Rows.{start_at};
+
 use grid_core::Memory;
 use std::alloc::Global;
 use std::marker::Model;
@@ -30,7 +34,8 @@ impl Model for Rows {
 }
 
 impl Rows {
-    ghost use Rattle.std.specs.Prelude.{◌≡◌, ◌<◌, ◌++◌, ◌∷◌, [], length, sum_by, slice_index_or, IfOk, OnOk};
+    ghost use Rattle.std.specs.Prelude.{◌≡◌, ◌<◌, ◌≤◌, ◌-◌, ◌++◌, ◌∷◌, [], length, take, drop};
+    ghost use Rattle.std.specs.Prelude.{sum_by, slice_index_or, IfOk, OnOk};
 
     /// No rows. Takes no memory.
     pub(crate) fn open(alloc: Global) -> Rows
@@ -79,6 +84,24 @@ impl Rows {
         Ok(())
     }
 
+    /// Puts the rows of others from one index to another behind the rows, all numbers in one piece.
+    pub(crate) fn push_run(&mut self, others: &Rows, from: usize, to: usize) -> Result<(), Memory>
+        requires order { from ≤ to }
+        requires within { to ≤ length others.now }
+        ensures { OnOk result (self.new ≡ self.old ++ take (to - from) (drop from others.now)) }
+    {
+        if from == to {
+            return Ok(());
+        }
+        let start = start_of(&others.ends, from);
+        let stop = start_of(&others.ends, to);
+        let base = self.steps.len();
+        self.ends.reserve(to - from)?;
+        self.steps.extend_from_slice(&others.steps[start..stop])?;
+        push_ends(&mut self.ends, &others.ends[from..to], start, base);
+        Ok(())
+    }
+
     /// The same rows, each vector as long as what it has.
     pub(crate) fn copy(&self, alloc: Global) -> Result<Rows, Memory>
         ensures { IfOk result (λ rows. rows ≡ self.now) }
@@ -87,5 +110,29 @@ impl Rows {
             ends: Vec::from_slice(alloc, &self.ends)?,
             steps: Vec::from_slice(alloc, &self.steps)?,
         })
+    }
+}
+
+/// Where the row at an index begins: where the one before it ends. One index more than there are rows
+/// is where all rows end.
+#[inline(always)]
+fn start_of(ends: &[usize], i: usize) -> usize
+    requires { i ≤ length ends.now }
+    ensures { result ≡ start_at 0 ends.now i }
+{
+    if i == 0 { 0 } else { ends[i - 1] }
+}
+
+/// Puts more ends behind the others, which have room for them: ends of rows that began at `start`, and
+/// begin at `base` now.
+fn push_ends(ends: &mut Vec<usize>, more: &[usize], start: usize, base: usize)
+    requires room { length ends.old.items + length more.now ≤ vec_capacity ends.old }
+    requires behind { All (λ e. start ≤ e) more.now }
+    requires fits { All (λ e. base + (e - start) < 2 ^ 64) more.now }
+    ensures { ends.new.items ≡ ends.old.items ++ map (λ e. base + (e - start)) more.now }
+{
+    for end in more {
+        let put = ends.push(base + (*end - start));
+        prove!(put.is_ok());
     }
 }

@@ -5,7 +5,7 @@ use crate::listed::index_of;
 use crate::own::count_own;
 use crate::rows::Rows;
 use crate::spots::{Spot, cool};
-use crate::steps::{grow_row, thin_row};
+use crate::steps::{first_met, grow_row, thin_row};
 use crate::tile::HotPart;
 use crate::{Scratch, Tile};
 use grid_core::{Memory, Name};
@@ -92,7 +92,8 @@ impl Tile {
     }
 
     /// Puts the passes of the segments from one index to another behind the rows, without those
-    /// through the pixels that became cold.
+    /// through the pixels that became cold. Rows of neighbours that meet none of these are copied in
+    /// one run, which begins at `kept`.
     fn thin_between(
         &self,
         from: usize,
@@ -110,15 +111,18 @@ impl Tile {
     {
         let segments = self.segments();
         let frame = self.frame();
+        let mut kept = from;
         for i in from..to {
-            if cold.is_empty() {
-                rows.push(self.row(i))?;
-            } else {
-                grow_row(gone, &frame, &segments[i], &[], cold)?;
+            let first = first_met(&frame, &segments[i], cold);
+            if first < cold.len() {
+                self.keep_between(kept, i, rows)?;
+                grow_row(gone, &frame, &segments[i], &[], &cold[first..])?;
                 thin_row(row, self.row(i), gone)?;
                 rows.push(row)?;
+                kept = i + 1;
             }
         }
+        self.keep_between(kept, to, rows)?;
         Ok(())
     }
 }

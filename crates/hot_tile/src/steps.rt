@@ -1,7 +1,7 @@
 //! Rows of steps: the passes of a segment through the hot pixels of a tile, in order along it.
 
 ghost use Rattle.std.specs.Prelude.{◌≡◌, ◌+◌, ◌<◌, ◌≤◌, ◌^◌, [], not, OnOk};
-ghost use Rattle.std.specs.Prelude.{length, take, drop, filter};
+ghost use Rattle.std.specs.Prelude.{length, take, drop, filter, slice_index_or, IsTrue};
 ghost use Rattle.std.specs.Ordering.{nat_cmp, is_lt, MatchOrdering};
 ghost use Rattle.std.specs.List.Sorted.{IsStrictlySortedBy};
 ghost use Rattle.std.specs.BTreeSet.{insert_key};
@@ -42,6 +42,21 @@ pub(crate) fn put(row: &mut Vec<u32>, step: u32) -> Result<(), Memory>
     }
     row.insert(at, step)?;
     Ok(())
+}
+
+/// How many of the pixels, given by their keys, come before the first that `u` meets.
+pub(crate) fn first_met(frame: &Frame, u: &Ur, pixels: &[u32]) -> usize
+    requires { IsWithin (2 ^ 30 + 2 ^ 16) (lowest frame.now) }
+    ensures within { result ≤ length pixels.now }
+    ensures before { filter (meets_key frame.now u.now) (take result pixels.now) ≡ [] }
+    ensures met { result < length pixels.now
+        → IsTrue (meets_key frame.now u.now (slice_index_or pixels.now result 0)) }
+{
+    let mut n = 0;
+    'pixels: while n < pixels.len() && !meets_key(frame, u, pixels[n]) {
+        n += 1;
+    }
+    n
 }
 
 /// Makes `row` the row of `u` with those of the pixels, given by their keys, that `u` meets.

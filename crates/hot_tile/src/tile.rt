@@ -50,7 +50,7 @@ impl Tile {
     ghost use Rattle.std.specs.Prelude.{Contains, IsNone, IsSome};
     ghost use Rattle.grid_core.specs.LiveList.{IsLiveList, names};
     ghost use Rattle.grid_core.specs.Tiles.{passes_in};
-    ghost use Rattle.std.specs.Prelude.{◌^◌, false, All};
+    ghost use Rattle.std.specs.Prelude.{◌^◌, ◌-◌, ◌++◌, false, All, map, take, drop, OnOk};
     ghost use Rattle.std.specs.Ordering.{nat_cmp};
     ghost use Rattle.std.specs.List.Sorted.{IsStrictlySortedBy};
     ghost use Rattle.grid_core.specs.Profile.{IsProfile};
@@ -179,6 +179,24 @@ impl Tile {
             Some(hot_part) => hot_part.rows.row(i),
             None => &[],
         }
+    }
+
+    /// Puts the passes of the segments from one index to another behind the rows, as they are.
+    pub(crate) fn keep_between(&self, from: usize, to: usize, rows: &mut Rows) -> Result<(), Memory>
+        requires order { from ≤ to }
+        requires within { to ≤ length self.now.segments }
+        ensures { OnOk result (rows.new ≡ rows.old ++ map (path_in self.now)
+            (take (to - from) (drop from self.now.segments))) }
+    {
+        match &self.hot_part {
+            Some(hot_part) => rows.push_run(&hot_part.rows, from, to)?,
+            None => {
+                for _ in from..to {
+                    rows.push(&[])?;
+                }
+            }
+        }
+        Ok(())
     }
 }
 

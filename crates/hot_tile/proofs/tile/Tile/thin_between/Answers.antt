@@ -1,24 +1,23 @@
-use Rattle.std.proofs.Common.{◌≡◌, ◌∙◌, sym, ap, subst, ℕ, List, [], ◌<◌, arith, map, length, get_or}
+-- What is written is what is left of the rows before `kept`; the rows from there on are as they were.
+use Rattle.std.proofs.Common.{◌≡◌, ◌∙◌, sym, ap, ℕ, List, [], ◌<◌, ◌+◌, ◌-◌, arith, subst, map, length, get_or, take, drop}
 use Rattle.std.specs.List.{filter}
-use Rattle.std.specs.Prelude.{pos}
 use Rattle.std.specs.Ordering.{nat_cmp}
 use Rattle.std.specs.List.Sorted.{IsStrictlySortedBy}
+use Rattle.std.proofs.lemmas.List.{get_or_default, take_rest}
 use Rattle.grid_core.specs.Segment.{Segment}
-use Rattle.hot_tile.specs.Frame.{TileFrame, step_of}
+use Rattle.hot_tile.specs.Frame.{step_of}
 use Rattle.hot_tile.specs.Steps.{meets_key, grown_row, thinned_row}
-use Rattle.hot_tile.specs.Tile.{frame_of}
+use Rattle.hot_tile.specs.Tile.{frame_of, path_in}
 use Rattle.hot_tile.specs.Paths.{thinned_path}
-use Rattle.hot_tile.proofs.PathLaws.{between_more, thinned_none, folded_rises, none_rises, empty_is}
+use Rattle.hot_tile.proofs.PathLaws.{IsKeeping, keeping_none, keeps_one, keeps_run, writes_one, grown_from, thinned_stays, folded_rises, none_rises}
 use Rattle.hot_tile.proofs.tile.Tile.thin_between.Goals as goal
-use Rattle.hot_tile.proofs.tile.Tile.thin_between.Goals.{then-is_empty+in_ok-push, else-is_empty+in_ok-grow_row+in_ok-thin_row+in_ok-push-2}
+use Rattle.hot_tile.proofs.tile.Tile.thin_between.Goals.{Joined-first-cold, then-first-cold+in_ok-keep_between+in_ok-grow_row+in_ok-thin_row+in_ok-push, else-first-cold}
 
-abbrev unread : Segment
-unread =
-    record {
-      name = record { editor = 0; serial = 0 };
-      p = record { x = pos 0; y = pos 0 };
-      q = record { x = pos 0; y = pos 0 };
-    }
+pub loop-i-init : goal.loop-i-init
+loop-i-init c = keeping_none (thinned_path c.args.self.now c.args.cold.now) (path_in c.args.self.now) c.args.self.now.segments c.args.from c.args.rows.now
+
+pub keep_between-requires-clause-order : goal.keep_between-requires-clause-order
+keep_between-requires-clause-order c = c.loop-i.invariant.past
 
 pub grow_row-requires-clause-rising : goal.grow_row-requires-clause-rising
 grow_row-requires-clause-rising c = none_rises
@@ -27,34 +26,54 @@ pub thin_row-requires-clause-gone_rising : goal.thin_row-requires-clause-gone_ri
 thin_row-requires-clause-gone_rising c =
     subst (IsStrictlySortedBy nat_cmp) (sym (c.deref.ensures.value ∙ c.in_ok-grow_row.ensures))
     (folded_rises []
-    (map (step_of c.index-segments-i.result) (filter (meets_key c.frame-frame.result c.index-segments-i.result) c.args.cold.now)) none_rises)
+    (map (step_of c.index-segments-i-then-first-cold.result)
+    (filter (meets_key c.frame-frame.result c.index-segments-i-then-first-cold.result)
+    (take (length c.args.cold.now - c.first_met-first.result) (drop c.first_met-first.result c.args.cold.now)))) none_rises)
+
+-- the segment at i meets no pixel before the first
+before : (c : Joined-first-cold) (d : Segment) → c.loop-i.i < length c.args.self.now.segments
+    → filter (meets_key (frame_of c.args.self.now) (get_or c.args.self.now.segments c.loop-i.i d)) (take c.first_met-first.result c.args.cold.now) ≡ []
+before c d within =
+    let u : c.index-segments-i.result ≡ get_or c.args.self.now.segments c.loop-i.i d =
+    c.index-segments-i.is
+    ∙ ap (λ (us : List Segment). get_or us c.loop-i.i c.index-segments-i.result) c.segments-segments.ensures.value
+    ∙ get_or_default c.args.self.now.segments c.loop-i.i c.index-segments-i.result d within in
+    sym (λ k. filter (meets_key (c.frame-frame.ensures.value k) (u k)) (take c.first_met-first.result c.args.cold.now))
+    ∙ c.first_met-first.ensures.before
 
 pub loop-i-preserved : goal.loop-i-preserved
 loop-i-preserved c =
     let within : c.loop-i.i < length c.args.self.now.segments = omega (arith, c.loop-i-test.true, c.requires.within) in
-    elim c.if-is_empty.branch [
-      | then-is_empty+in_ok-push w ↦
-          w.rows-is ∙ w.in_ok-push.ensures
-          ∙ between_more (thinned_path c.args.self.now c.args.cold.now) c.args.self.now.segments c.args.from c.loop-i.i unread c.args.rows.now c.loop-i.rows
-          w.row.result.now c.loop-i.auto.i within c.loop-i.invariant
-          (w.row.ensures.value unread
-          ∙ thinned_none c.args.self.now c.args.cold.now (get_or c.args.self.now.segments c.loop-i.i unread)
-          (empty_is c.args.cold.now (sym c.is_empty.ensures ∙ w.if-is_empty.true)))
-      | else-is_empty+in_ok-grow_row+in_ok-thin_row+in_ok-push-2 w ↦
-          let u : w.index-segments-i.result ≡ get_or c.args.self.now.segments c.loop-i.i w.index-segments-i.result =
-          w.index-segments-i.is
-          ∙ ap (λ (us : List Segment). get_or us c.loop-i.i w.index-segments-i.result) c.segments-segments.ensures.value in
-          let gone =
+    elim c.if-first-cold.branch [
+      | then-first-cold+in_ok-keep_between+in_ok-grow_row+in_ok-thin_row+in_ok-push w ↦
+          let d = w.index-segments-i-then-first-cold.result in
+          let u : d ≡ get_or c.args.self.now.segments c.loop-i.i d =
+          w.index-segments-i-then-first-cold.is ∙ ap (λ (us : List Segment). get_or us c.loop-i.i d) c.segments-segments.ensures.value in
+          let gone : w.deref.result.now
+          ≡ grown_row (frame_of c.args.self.now) (get_or c.args.self.now.segments c.loop-i.i d) [] c.args.cold.now =
           w.deref.ensures.value ∙ w.in_ok-grow_row.ensures
-          ∙ ap (λ (f : TileFrame). grown_row f w.index-segments-i.result [] c.args.cold.now) c.frame-frame.ensures.value
-          ∙ ap (λ (s : Segment). grown_row (frame_of c.args.self.now) s [] c.args.cold.now) u in
-          let row : w.deref-else-is_empty.result.now
-          ≡ thinned_path c.args.self.now c.args.cold.now (get_or c.args.self.now.segments c.loop-i.i w.index-segments-i.result) =
-          w.deref-else-is_empty.ensures.value ∙ w.in_ok-thin_row.ensures
-          ∙ ap (λ (ks : List ℕ). thinned_row ks w.row-else-is_empty.result.now) gone
-          ∙ ap (thinned_row (grown_row (frame_of c.args.self.now) (get_or c.args.self.now.segments c.loop-i.i w.index-segments-i.result) [] c.args.cold.now))
-          (w.row-else-is_empty.ensures.value w.index-segments-i.result) in
-          w.rows-is ∙ w.in_ok-push-2.ensures
-          ∙ between_more (thinned_path c.args.self.now c.args.cold.now) c.args.self.now.segments c.args.from c.loop-i.i w.index-segments-i.result c.args.rows.now c.loop-i.rows
-          w.deref-else-is_empty.result.now c.loop-i.auto.i within c.loop-i.invariant row
+          ∙ (λ k. grown_row (c.frame-frame.ensures.value k) (u k) [] (take_rest c.args.cold.now c.first_met-first.result k))
+          ∙ grown_from (frame_of c.args.self.now) (get_or c.args.self.now.segments c.loop-i.i d) [] c.args.cold.now c.first_met-first.result
+          (before c d within) in
+          let row : w.deref-then-first-cold.result.now ≡ thinned_path c.args.self.now c.args.cold.now (get_or c.args.self.now.segments c.loop-i.i d) =
+          w.deref-then-first-cold.ensures.value ∙ w.in_ok-thin_row.ensures ∙ (λ k. thinned_row (gone k) (w.row.ensures.value d k)) in
+          subst (λ (p : ℕ × List (List ℕ)).
+          IsKeeping (thinned_path c.args.self.now c.args.cold.now) (path_in c.args.self.now) c.args.self.now.segments c.args.from p.0 (c.loop-i.i + 1) c.args.rows.now p.1)
+          (λ k. (sym w.kept-is k, sym (w.rows-is ∙ w.in_ok-push.ensures) k))
+          (writes_one c.loop-i.invariant d w.keep_between.new.rows w.deref-then-first-cold.result.now within w.in_ok-keep_between.ensures row)
+      | else-first-cold w ↦
+          subst (λ (p : ℕ × List (List ℕ)).
+          IsKeeping (thinned_path c.args.self.now c.args.cold.now) (path_in c.args.self.now) c.args.self.now.segments c.args.from p.0 (c.loop-i.i + 1) c.args.rows.now p.1)
+          (λ k. (sym w.kept-is k, sym w.rows-is k))
+          (keeps_one c.loop-i.invariant c.index-segments-i.result within
+          (thinned_stays c.args.self.now c.args.cold.now (get_or c.args.self.now.segments c.loop-i.i c.index-segments-i.result) c.first_met-first.result
+          (before c c.index-segments-i.result within) (omega (arith, w.if-first-cold.false))))
     ]
+
+pub returns : goal.returns
+returns c =
+    let ended : c.loop-i.i ≡ c.args.to = omega (arith, c.loop-i-test.false, c.loop-i.auto.i-end c.requires.order) in
+    keeps_run
+    (subst (λ n. IsKeeping (thinned_path c.args.self.now c.args.cold.now) (path_in c.args.self.now) c.args.self.now.segments c.args.from c.loop-i.kept n c.args.rows.now c.loop-i.rows)
+    ended c.loop-i.invariant)
+    c.keep_between-2.new.rows c.in_ok-keep_between-2.ensures
