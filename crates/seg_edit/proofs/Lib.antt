@@ -4,3 +4,4 @@ pub mod Moving
 pub mod Ready
 pub mod Reading
 pub mod Waiting
+pub mod GivenTiles

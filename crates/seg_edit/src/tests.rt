@@ -1,6 +1,7 @@
 //! Worked rows, and a drawing that editors change from older versions.
 
 mod many_editors;
+mod replaced;
 mod rows;
 
 ghost use Rattle.std.specs.Prelude.{◌≡◌, ◌+◌, ◌<◌, ◌≤◌, ◌^◌, length, IfOk, OnOk};

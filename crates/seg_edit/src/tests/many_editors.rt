@@ -216,7 +216,7 @@ fn commit(
 }
 
 /// Compares the version with the rounding of its live list.
-fn compare(
+pub(crate) fn compare(
     rt: &impl Abort,
     alloc: Global,
     version: &Version,
@@ -298,7 +298,7 @@ fn spans(alloc: Global, profile: &Profile, live: &[Ur]) -> Result<u64, Memory> {
 }
 
 /// Sees that two versions are equal, which a change made in place and beside it.
-fn see_equal(
+pub(crate) fn see_equal(
     rt: &impl Abort,
     current: &Version,
     next: &Version,
