@@ -19,19 +19,19 @@ use Rattle.grid_core.proofs.Polynomial.{V, K, ◌⊕◌, ◌⊖◌, ◌⊗◌, s
 use Rattle.cell_map.specs.EdgeOrder.{LowerStaysLower, AboveIsAboveThoseBefore}
 use Rattle.cell_map.proofs.StripOfPoint.{and_left, and_right}
 
-abbrev width : EdgeEnds → ℤ
+abbrev pub width : EdgeEnds → ℤ
 width e = e.b.x -ℤ e.a.x
 
 -- how high an edge is at a column in 1/256 of a pixel, times its width
-abbrev height : EdgeEnds → ℤ → ℤ
+abbrev pub height : EdgeEnds → ℤ → ℤ
 height e x = (pos 256 *ℤ e.a.y) *ℤ (e.b.x -ℤ e.a.x) +ℤ (e.b.y -ℤ e.a.y) *ℤ (x -ℤ pos 256 *ℤ e.a.x)
 
 -- how much higher f is than e there, times both widths
-abbrev over : EdgeEnds → EdgeEnds → ℤ → ℤ
+abbrev pub over : EdgeEnds → EdgeEnds → ℤ → ℤ
 over e f x = height f x *ℤ width e -ℤ height e x *ℤ width f
 
 -- a point of an edge, by a part and a whole of it
-on_edge : (e : EdgeEnds) (c : RationalPoint) (u n : ℤ) → pos 0 ≤ℤ u → u ≤ℤ n → pos 0 <ℤ n
+pub on_edge : (e : EdgeEnds) (c : RationalPoint) (u n : ℤ) → pos 0 ≤ℤ u → u ≤ℤ n → pos 0 <ℤ n
     → IsOnePoint c (point_of_edge e u n) → IsOnEdge e c
 on_edge e c u n low high some is =
     let part : pos (unsigned_abs u) ≡ u = omega (arith, signed, low) in
@@ -190,7 +190,7 @@ no_end e at m k x y has left no_m some_k is end =
     end
 
 module _ {es : List EdgeEnds} {vs : List Point} (planar : IsPlanar es vs) where
-  stays_over : (e f : EdgeEnds) (x y : ℤ) → Contains es e → Contains es f → Has e x y → Has f x y → x <ℤ y
+  pub stays_over : (e f : EdgeEnds) (x y : ℤ) → Contains es e → Contains es f → Has e x y → Has f x y → x <ℤ y
       → pos 0 <ℤ over e f x → pos 0 <ℤ over e f y
   stays_over e f x y of_e of_f has_e has_f left up = ⊎_elim (λ l. l) by (int_lt_or_le (pos 0) (over e f y))
     where
@@ -224,20 +224,20 @@ module _ {es : List EdgeEnds} {vs : List Point} (planar : IsPlanar es vs) where
 
 -- ---- the law
 
-has_columns : (e : EdgeEnds) (q r : Point) → IsTrue (spans q e) → IsTrue (spans r e) → Has e q.x r.x
+pub has_columns : (e : EdgeEnds) (q r : Point) → IsTrue (spans q e) → IsTrue (spans r e) → Has e q.x r.x
 has_columns e q r h i =
     record {
       from = from_le_true (pos 256 *ℤ e.a.x) q.x (and_left (int_le (pos 256 *ℤ e.a.x) q.x) (int_lt q.x (pos 256 *ℤ e.b.x)) h);
       to = from_lt_true r.x (pos 256 *ℤ e.b.x) (and_right (int_le (pos 256 *ℤ e.a.x) r.x) (int_lt r.x (pos 256 *ℤ e.b.x)) i);
     }
 
-lower_is : (e f : EdgeEnds) (q : Point) → height_cmp q e f ≡ Less → pos 0 <ℤ over e f q.x
+pub lower_is : (e f : EdgeEnds) (q : Point) → height_cmp q e f ≡ Less → pos 0 <ℤ over e f q.x
 lower_is e f q h =
     let below : (height e q.x *ℤ width f) <ℤ (height f q.x *ℤ width e) =
     int_ranked (height e q.x *ℤ width f) (height f q.x *ℤ width e) Less (sym h) in
     omega (arith, signed, below)
 
-is_lower : (e f : EdgeEnds) (q : Point) → pos 0 <ℤ over e f q.x → height_cmp q e f ≡ Less
+pub is_lower : (e f : EdgeEnds) (q : Point) → pos 0 <ℤ over e f q.x → height_cmp q e f ≡ Less
 is_lower e f q h =
     sym (int_cmp_is (height e q.x *ℤ width f) (height f q.x *ℤ width e) Less (omega (arith, signed, h)))
 
@@ -255,7 +255,7 @@ lower_stays_lower {es} {vs} planar e f q r of_e of_f e_q f_q e_r f_r left h =
 -- ---- points above edges
 
 -- over e f is linear in the column
-over_moved : (e f : EdgeEnds) (x y : ℤ)
+pub over_moved : (e f : EdgeEnds) (x y : ℤ)
     → over e f y
     ≡ over e f x +ℤ ((f.b.y -ℤ f.a.y) *ℤ width e -ℤ (e.b.y -ℤ e.a.y) *ℤ width f) *ℤ (y -ℤ x)
 over_moved e f x y =
@@ -267,14 +267,14 @@ over_moved e f x y =
     ⊖ ((K (pos 256) ⊗ V 1) ⊗ V 2 ⊕ V 3 ⊗ (V 8 ⊖ K (pos 256) ⊗ V 0)) ⊗ V 6)
     ⊕ (V 7 ⊗ V 2 ⊖ V 3 ⊗ V 6) ⊗ (V 9 ⊖ V 8)) refl
 
-side_is : (e : EdgeEnds) (q : Point) → side_of_edge e q ≡ width e *ℤ q.y -ℤ height e q.x
+pub side_is : (e : EdgeEnds) (q : Point) → side_of_edge e q ≡ width e *ℤ q.y -ℤ height e q.x
 side_is e q =
     same_polynomial (e.a.x ∷ e.a.y ∷ (e.b.x -ℤ e.a.x) ∷ (e.b.y -ℤ e.a.y) ∷ q.x ∷ q.y ∷ [])
     (V 2 ⊗ (V 5 ⊖ K (pos 256) ⊗ V 1) ⊖ V 3 ⊗ (V 4 ⊖ K (pos 256) ⊗ V 0))
     (V 2 ⊗ V 5 ⊖ ((K (pos 256) ⊗ V 1) ⊗ V 2 ⊕ V 3 ⊗ (V 4 ⊖ K (pos 256) ⊗ V 0))) refl
 
 -- a point above an edge is above each edge that isn't higher; p and q are the heights over the widths w and v
-above_lower : (w v p q y : ℤ) → pos 0 <ℤ w → pos 0 <ℤ v → pos 0 ≤ℤ (q *ℤ w -ℤ p *ℤ v) → pos 0 <ℤ (v *ℤ y -ℤ q)
+pub above_lower : (w v p q y : ℤ) → pos 0 <ℤ w → pos 0 <ℤ v → pos 0 ≤ℤ (q *ℤ w -ℤ p *ℤ v) → pos 0 <ℤ (v *ℤ y -ℤ q)
     → pos 0 <ℤ (w *ℤ y -ℤ p)
 above_lower w v p q y some_w some_v up above =
     let gap = int_mul_pos (v *ℤ y -ℤ q) w above some_w in
@@ -284,7 +284,7 @@ above_lower w v p q y some_w some_v up above =
     let none : v *ℤ pos 0 ≡ pos 0 = same_polynomial (v ∷ []) (V 0 ⊗ K (pos 0)) (K (pos 0)) refl in
     int_lt_of_mul v (pos 0) (w *ℤ y -ℤ p) some_v (omega (arith, signed, gap, parts, none, up))
 
-wide_by : (e : EdgeEnds) (x y : ℤ) → Has e x y → x ≤ℤ y → pos 0 <ℤ width e
+pub wide_by : (e : EdgeEnds) (x y : ℤ) → Has e x y → x ≤ℤ y → pos 0 <ℤ width e
 wide_by e x y has left = omega (arith, signed, has.from, has.to, left)
 
 module _ {es : List EdgeEnds} {vs : List Point} (planar : IsPlanar es vs) where

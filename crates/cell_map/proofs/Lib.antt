@@ -5,3 +5,7 @@ pub mod Exchanging
 pub mod FirstNames
 pub mod Refreshing
 pub mod EdgeOrder
+pub mod EdgeRanks
+pub mod Least
+pub mod UpwardsOrder
+pub mod Enough

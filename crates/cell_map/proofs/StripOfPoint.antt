@@ -53,10 +53,10 @@ left_of_wall k x h =
 right_of_wall : (k x : ℤ) → k <ℤ strip_at x → (pos 256 *ℤ (k +ℤ pos 1)) ≤ℤ x
 right_of_wall k x h = above_floor_ge x (pos 256) (k +ℤ pos 1) (omega (arith, ints)) (omega (arith, ints, h))
 
-between_low : (a b z : ℤ) → a ≤ℤ b → int_le (int_min a b) z ≡ true → a ≤ℤ z
+pub between_low : (a b z : ℤ) → a ≤ℤ b → int_le (int_min a b) z ≡ true → a ≤ℤ z
 between_low a b z h e = omega (arith, ints, from_le_true (int_min a b) z e, int_min_is a b)
 
-between_high : (a b z : ℤ) → a ≤ℤ b → int_le z (int_max a b) ≡ true → z ≤ℤ b
+pub between_high : (a b z : ℤ) → a ≤ℤ b → int_le z (int_max a b) ≡ true → z ≤ℤ b
 between_high a b z h e = omega (arith, ints, from_le_true z (int_max a b) e, int_max_is a b)
 
 -- ---- edges and vertices
@@ -84,7 +84,7 @@ spanning_meets q e h =
     let high = from_lt_true q.x (pos 256 *ℤ e.b.x) (and_right left right h) in
     meets_between q e low (omega (arith, ints, high))
 
-ordered_columns : (e : EdgeEnds) → IsEdge e → (pos 256 *ℤ e.a.x) ≤ℤ (pos 256 *ℤ e.b.x)
+pub ordered_columns : (e : EdgeEnds) → IsEdge e → (pos 256 *ℤ e.a.x) ≤ℤ (pos 256 *ℤ e.b.x)
 ordered_columns e h = ⊎_elim
     (λ (l : e.a.x <ℤ e.b.x). omega (arith, ints, l))
     (λ (l : (e.a.x ≡ e.b.x) × (e.a.y <ℤ e.b.y)). omega (arith, ints, l.0))

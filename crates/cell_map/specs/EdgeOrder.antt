@@ -1,10 +1,11 @@
 -- The order of the edges of a graph over its columns.
-use Rattle.std.specs.Prelude.{◌≡◌, pos, ◌≤ℤ◌, int_lt, IsTrue, List, Contains}
-use Rattle.std.specs.declared.cmp.Ordering.TheVariants.{Less}
+use Rattle.std.specs.Prelude.{◌≡◌, ◌⊎◌, pos, ◌≤ℤ◌, ◌<ℤ◌, int_lt, IsTrue, List, Contains}
+use Rattle.std.specs.declared.cmp.Ordering.TheVariants.{Less, Greater}
 use Rattle.std.specs.Ordering.{ordering_then}
 use Rattle.grid_core.specs.declared.point.Point.{Point}
 use Rattle.grid_core.specs.Edge.{EdgeEnds}
-use Rattle.grid_core.specs.Places.{spans, height_cmp, slope_cmp, side_of_edge}
+use Rattle.grid_core.specs.Planar.{IsEnd}
+use Rattle.grid_core.specs.Places.{query_point, spans, lies_on, height_cmp, slope_cmp, side_of_edge}
 
 -- of two edges that both have the columns of q and of r, r's the same or further right, the one that is
 -- lower over q's column is lower over r's
@@ -38,3 +39,30 @@ AboveIsAboveThoseBefore es = (e f : EdgeEnds) (q r : Point)
     → ComesBefore q e f
     → IsTrue (int_lt (pos 0) (side_of_edge f r))
     → IsTrue (int_lt (pos 0) (side_of_edge e r))
+
+-- q's column lies between those of the edge's ends, and is neither of the two
+pub record IsInside (q : Point) (e : EdgeEnds) : Type 0 where
+  pub from : (query_point e.a).x <ℤ q.x
+  pub to : q.x <ℤ (query_point e.b).x
+
+-- of two edges that aren't one, that which isn't the higher over a column inside both comes before the
+-- other over each column that both have
+abbrev pub LowerInsideComesBefore : List EdgeEnds → Type 0
+LowerInsideComesBefore es = (e f : EdgeEnds) (q r : Point)
+    → Contains es e
+    → Contains es f
+    → IsInside q e
+    → IsInside q f
+    → IsTrue (spans r e)
+    → IsTrue (spans r f)
+    → (height_cmp q e f ≡ Greater → ⊥)
+    → (e ≡ f) ⊎ ComesBefore r e f
+
+-- two edges that have one query point are one edge, or the point is an end of both
+abbrev pub OneEdgeHas : List EdgeEnds → Type 0
+OneEdgeHas es = (e f : EdgeEnds) (q : Point)
+    → Contains es e
+    → Contains es f
+    → IsTrue (lies_on q e)
+    → IsTrue (lies_on q f)
+    → (e ≡ f) ⊎ ((h : Point) × IsEnd e h × IsEnd f h × (query_point h ≡ q))

@@ -32,7 +32,10 @@ mod strip;
 
 pub use cell_map::CellMap;
 pub use found::Found;
-pub use laws::{above_is_above_those_before, lower_stays_lower, refreshed_are_built};
+pub use laws::{
+    above_is_above_those_before, enough_tell_the_place, lower_inside_comes_before,
+    lower_stays_lower, one_edge_has, refreshed_are_built,
+};
 
 #[cfg(test)]
 mod tests;
