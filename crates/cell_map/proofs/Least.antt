@@ -1,13 +1,13 @@
 -- The first member of a list in an order is a matter of its members alone: it is the one that comes before all others.
 -- So a part of a list that has, for each member of the whole, one that comes before it has the same first member.
 use Rattle.std.proofs.Common.{◌≡◌, refl, ap, sym, subst, ◌∙◌, arith, Bool, true, false, IsTrue, ⊎_elim, inl, inr}
-use Rattle.std.proofs.Common.{List, [], ◌∷◌, filter, fold, Contains, Option, Some, None, Ordering, Less, Equal, Greater, is_lt}
+use Rattle.std.proofs.Common.{List, [], ◌∷◌, filter, fold, Contains, Option, Some, None, Ordering, Less, Greater, is_lt}
 use Rattle.std.specs.Prelude.{◌⊎◌, slice_get, if◌then◌else◌}
 use Rattle.std.specs.BTreeSet.{insert_key}
-use Rattle.std.specs.Ordering.{match_ordering}
 use Rattle.grid_core.specs.Places.{least_by}
 use Rattle.grid_core.proofs.ListMembers.{contains_first, contains_later, contains_cases, contains_filter}
 use Rattle.place_test.specs.Nearest.{first_of}
+use Rattle.place_test.proofs.Scans.{head_inserted}
 
 pub none_in : {X : Type 0} {x : X} → Contains [] x → ⊥
 none_in c = omega (arith, c.1)
@@ -16,20 +16,10 @@ some_same : {X : Type 0} (a b : X) → Some a ≡ Some b → a ≡ b
 some_same a b e = cc
 
 module _ {A : Type 0} (cmp : A → A → Ordering) where
-  head_inserted : (x : A) (xs : List A) → slice_get (insert_key cmp xs x) 0 ≡ first_of cmp (slice_get xs 0) x
-  head_inserted x [] = refl
-  head_inserted x (y ∷ ys) = by (cmp x y)
-    where
-      by : (r : Ordering) → slice_get (match_ordering r (x ∷ y ∷ ys) (y ∷ ys) (y ∷ insert_key cmp ys x)) 0
-          ≡ (if is_lt r then Some x else Some y)
-      by Less = refl
-      by Equal = refl
-      by Greater = refl
-
   head_filled : (ys xs : List A) → slice_get (fold (insert_key cmp) ys xs) 0 ≡ fold (first_of cmp) (slice_get ys 0) xs
   head_filled ys [] = refl
   head_filled ys (x ∷ xs) =
-      head_filled (insert_key cmp ys x) xs ∙ ap (λ o. fold (first_of cmp) o xs) (head_inserted x ys)
+      head_filled (insert_key cmp ys x) xs ∙ ap (λ o. fold (first_of cmp) o xs) (head_inserted cmp x ys)
 
   -- m is x, or comes before it
   abbrev pub Leads : A → A → Type 0

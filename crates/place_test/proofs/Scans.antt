@@ -22,7 +22,8 @@ use Rattle.grid_core.proofs.RisingSets.{rising_push}
 use Rattle.place_test.specs.Nearest.{Around, around, first_of, vertex_or, vertex_among}
 
 module _ {A : Type 0} (cmp : A → A → Ordering) where
-  head_inserted : (x : A) (xs : List A) → slice_get (insert_key cmp xs x) 0 ≡ first_of cmp (slice_get xs 0) x
+  -- the head of a list with one member more
+  pub head_inserted : (x : A) (xs : List A) → slice_get (insert_key cmp xs x) 0 ≡ first_of cmp (slice_get xs 0) x
   head_inserted x [] = refl
   head_inserted x (y ∷ ys) = by (cmp x y)
     where
