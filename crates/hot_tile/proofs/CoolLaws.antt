@@ -1,15 +1,16 @@
 -- Spots less what others take away, and rows less the steps that are gone: the steps of two loops
 -- over two lists in order.
-use Rattle.std.proofs.Common.{◌≡◌, refl, ap, sym, ◌∙◌, subst, ℕ, ◌+◌, ◌-◌, ◌<◌, ◌≤◌, ◌⊎◌, inl, inr, arith, true, false, cond, List, [], ◌∷◌, ◌++◌, map, length, get_or, take, drop, append_assoc, nat_eq}
+use Rattle.std.proofs.Common.{◌≡◌, refl, ap, sym, ◌∙◌, subst, ℕ, ◌+◌, ◌-◌, ◌<◌, ◌≤◌, ◌⊎◌, inl, inr, arith, Bool, true, false, cond, List, [], ◌∷◌, ◌++◌, map, length, get_or, take, drop, append_assoc, nat_eq}
 use Rattle.std.specs.Prelude.{sum_by, not, ◌||◌}
 use Rattle.std.specs.List.{filter, AllByRecursion}
 use Rattle.std.proofs.lemmas.Bool.Decides.{nat_tests}
-use Rattle.std.proofs.lemmas.List.{drop_more, drop_all, length-drop, take_all}
+use Rattle.std.proofs.lemmas.List.{append-nil, take-append-drop, drop_more, drop_all, drop-drop, length-drop, take_all}
 use Rattle.std.proofs.lemmas.List.Sums.{sum_by-cons}
 use Rattle.grid_core.proofs.Filters.{every_kept}
 use Rattle.hot_tile.specs.declared.spots.Spot.{Spot}
 use Rattle.hot_tile.specs.Spots.{keys, has_key, ends_counted, crossings_counted, less, is_cold, cooled, cold_keys}
 use Rattle.hot_tile.specs.Steps.{thinned_row}
+use Rattle.hot_tile.proofs.SpotLaws.{below_each, at_least}
 
 other_key : (j k : ℕ) → k < j → nat_eq j k ≡ false
 other_key j k h = grind (arith, nat_tests)
@@ -81,34 +82,67 @@ less_skip (x ∷ xs) y ys h =
 abbrev pub left_first : Spot → List Spot → List Spot
 left_first r rs = cond (not (is_cold r)) (r ∷ filter (λ x. not (is_cold x)) rs) (filter (λ x. not (is_cold x)) rs)
 
+-- a run of spots below all others stays
+run_stays : (k : ℕ) (run xs ys : List Spot) → AllByRecursion (λ x. is_cold x ≡ false) run → AllByRecursion (λ x. x.key < k) run
+    → AllByRecursion (λ y. k ≤ y.key) ys → (cooled (run ++ xs) ys ≡ run ++ cooled xs ys) × (cold_keys (run ++ xs) ys ≡ cold_keys xs ys)
+run_stays k [] xs ys w h a = (refl, refl)
+run_stays k (x ∷ run) xs ys w h a =
+    let same = less_none x ys (below_each x.key k ys h.0 a) in
+    let rest = run_stays k run xs ys w.1 h.1 a in (
+      ap (λ r. left_first r (map (less ys) (run ++ xs))) same
+          ∙ ap (λ b. cond (not b) (x ∷ cooled (run ++ xs) ys) (cooled (run ++ xs) ys)) w.0 ∙ ap (λ zs. x ∷ zs) rest.0,
+      ap (λ r. keys (cond (is_cold r) (r ∷ filter is_cold (map (less ys) (run ++ xs))) (filter is_cold (map (less ys) (run ++ xs))))) same
+          ∙ ap (λ b. keys (cond b (x ∷ filter is_cold (map (less ys) (run ++ xs))) (filter is_cold (map (less ys) (run ++ xs))))) w.0
+          ∙ rest.1,
+    )
+
+-- and where no others are left all stay
+all_stay : (xs : List Spot) → AllByRecursion (λ x. is_cold x ≡ false) xs → (cooled xs [] ≡ xs) × (cold_keys xs [] ≡ [])
+all_stay [] w = (refl, refl)
+all_stay (x ∷ xs) w =
+    let same = less_none x [] tt in
+    let rest = all_stay xs w.1 in (
+      ap (λ r. left_first r (map (less []) xs)) same ∙ ap (λ b. cond (not b) (x ∷ cooled xs []) (cooled xs [])) w.0
+          ∙ ap (λ zs. x ∷ zs) rest.0,
+      ap (λ r. keys (cond (is_cold r) (r ∷ filter is_cold (map (less []) xs)) (filter is_cold (map (less []) xs)))) same
+          ∙ ap (λ b. keys (cond b (x ∷ filter is_cold (map (less []) xs)) (filter is_cold (map (less []) xs)))) w.0 ∙ rest.1,
+    )
+
 -- the first i spots have been written to `out` less what the first j others take away, or to `cold`
 pub record IsCooling (olds owns : List Spot) (i j : ℕ) (out : List Spot) (found : List ℕ) : Type 0 where
   pub spots : out ++ cooled (drop i olds) (drop j owns) ≡ cooled olds owns
   pub cold : found ++ cold_keys (drop i olds) (drop j owns) ≡ cold_keys olds owns
 
 module _ {olds owns : List Spot} {i j : ℕ} {out : List Spot} {cold : List ℕ} (m : IsCooling olds owns i j out cold) (d : Spot) where
-  -- a spot of which nothing is taken stays
-  pub leaves_old : i < length olds → is_cold (get_or olds i d) ≡ false
-      → AllByRecursion (λ y. (get_or olds i d).key < y.key) (drop j owns)
-      → IsCooling olds owns (i + 1) j (out ++ get_or olds i d ∷ []) cold
-  leaves_old lt warm above =
+  -- a run of spots of which nothing is taken stays
+  pub leaves_run : (n : ℕ) → j < length owns → AllByRecursion (λ x. is_cold x ≡ false) (take n (drop i olds))
+      → AllByRecursion (λ x. x.key < (get_or owns j d).key) (take n (drop i olds))
+      → AllByRecursion (λ z. (get_or owns j d).key < z.key) (drop (j + 1) owns)
+      → IsCooling olds owns (i + n) j (out ++ take n (drop i olds)) cold
+  leaves_run n lt warm below after =
+      let run = take n (drop i olds) in
+      let joined : run ++ drop (i + n) olds ≡ drop i olds =
+      ap (λ xs. run ++ xs) (sym (drop-drop n i olds)) ∙ take-append-drop n (drop i olds) in
+      let above : AllByRecursion (λ y. (get_or owns j d).key ≤ y.key) (drop j owns) =
+      subst (AllByRecursion (λ y. (get_or owns j d).key ≤ y.key)) (sym (drop_more owns j d lt))
+      (at_least (get_or owns j d).key (get_or owns j d) (drop (j + 1) owns) refl after) in
+      let stays = run_stays (get_or owns j d).key run (drop (i + n) olds) (drop j owns) warm below above in
       record {
         spots =
-            append_assoc out (get_or olds i d ∷ []) (cooled (drop (i + 1) olds) (drop j owns))
-            ∙ ap (λ zs. out ++ zs)
-            (sym (ap (λ xs. cooled xs (drop j owns)) (drop_more olds i d lt)
-            ∙ ap (λ r. left_first r (map (less (drop j owns)) (drop (i + 1) olds))) (less_none (get_or olds i d) (drop j owns) above)
-            ∙ ap (λ b. cond (not b) (get_or olds i d ∷ cooled (drop (i + 1) olds) (drop j owns)) (cooled (drop (i + 1) olds) (drop j owns))) warm))
-            ∙ m.spots;
-        cold =
-            ap (λ zs. cold ++ zs)
-            (sym (ap (λ xs. cold_keys xs (drop j owns)) (drop_more olds i d lt)
-            ∙ ap (λ r. keys (cond (is_cold r) (r ∷ filter is_cold (map (less (drop j owns)) (drop (i + 1) olds)))
-            (filter is_cold (map (less (drop j owns)) (drop (i + 1) olds))))) (less_none (get_or olds i d) (drop j owns) above)
-            ∙ ap (λ b. keys (cond b (get_or olds i d ∷ filter is_cold (map (less (drop j owns)) (drop (i + 1) olds)))
-            (filter is_cold (map (less (drop j owns)) (drop (i + 1) olds))))) warm))
-            ∙ m.cold;
+            append_assoc out run (cooled (drop (i + n) olds) (drop j owns))
+            ∙ ap (λ zs. out ++ zs) (sym stays.0 ∙ ap (λ xs. cooled xs (drop j owns)) joined) ∙ m.spots;
+        cold = ap (λ zs. cold ++ zs) (sym stays.1 ∙ ap (λ xs. cold_keys xs (drop j owns)) joined) ∙ m.cold;
       }
+
+  -- once all others are past, all that is left stays
+  pub leaves_rest : length owns ≤ j → AllByRecursion (λ x. is_cold x ≡ false) (drop i olds)
+      → (out ++ drop i olds ≡ cooled olds owns) × (cold ≡ cold_keys olds owns)
+  leaves_rest past warm =
+      let none : drop j owns ≡ [] = drop_all j owns past in
+      let stay = all_stay (drop i olds) warm in (
+        ap (λ zs. out ++ zs) (sym stay.0 ∙ ap (cooled (drop i olds)) (sym none)) ∙ m.spots,
+        sym (append-nil cold) ∙ ap (λ zs. cold ++ zs) (sym stay.1 ∙ ap (cold_keys (drop i olds)) (sym none)) ∙ m.cold,
+      )
 
   -- what lies below all takes nothing
   pub passes_own : j < length owns → AllByRecursion (λ x. (get_or owns j d).key < x.key) (drop i olds)
@@ -132,7 +166,7 @@ module _ {olds owns : List Spot} {i j : ℕ} {out : List Spot} {cold : List ℕ}
   module _ (lt : i < length olds) (lt' : j < length owns) (e : (get_or owns j d).key ≡ (get_or olds i d).key)
       (above : AllByRecursion (λ x. (get_or owns j d).key < x.key) (drop (i + 1) olds))
       (after : AllByRecursion (λ z. (get_or owns j d).key < z.key) (drop (j + 1) owns)) where
-    abbrev what_left : Spot
+    abbrev pub what_left : Spot
     what_left =
         record {
           key = (get_or olds i d).key;
@@ -147,7 +181,7 @@ module _ {olds owns : List Spot} {i j : ℕ} {out : List Spot} {cold : List ℕ}
         ∷ less_skip (drop (i + 1) olds) (get_or owns j d) (drop (j + 1) owns) above k)
 
     -- a spot of which something is left
-    pub leaves_some : is_cold what_left ≡ false → IsCooling olds owns (i + 1) (j + 1) (out ++ what_left ∷ []) cold
+    leaves_some : is_cold what_left ≡ false → IsCooling olds owns (i + 1) (j + 1) (out ++ what_left ∷ []) cold
     leaves_some warm =
         record {
           spots =
@@ -165,7 +199,7 @@ module _ {olds owns : List Spot} {i j : ℕ} {out : List Spot} {cold : List ℕ}
         }
 
     -- a spot of which nothing is left
-    pub leaves_none : is_cold what_left ≡ true → IsCooling olds owns (i + 1) (j + 1) out (cold ++ (get_or olds i d).key ∷ [])
+    leaves_none : is_cold what_left ≡ true → IsCooling olds owns (i + 1) (j + 1) out (cold ++ (get_or olds i d).key ∷ [])
     leaves_none chilled =
         record {
           spots =
@@ -181,6 +215,18 @@ module _ {olds owns : List Spot} {i j : ℕ} {out : List Spot} {cold : List ℕ}
               (filter is_cold (map (less (drop (j + 1) owns)) (drop (i + 1) olds))))) chilled))
               ∙ m.cold;
         }
+
+    -- what is left is written, or its key where nothing is left
+    pub leaves_both : IsCooling olds owns (i + 1) (j + 1) (out ++ cond (is_cold what_left) [] (what_left ∷ []))
+        (cold ++ cond (is_cold what_left) (what_left.key ∷ []) [])
+    leaves_both = by (is_cold what_left) refl
+      where
+        by : (b : Bool) → is_cold what_left ≡ b
+            → IsCooling olds owns (i + 1) (j + 1) (out ++ cond b [] (what_left ∷ [])) (cold ++ cond b (what_left.key ∷ []) [])
+        by true e =
+            subst (λ zs. IsCooling olds owns (i + 1) (j + 1) zs (cold ++ what_left.key ∷ [])) (sym (append-nil out)) (leaves_none e)
+        by false e =
+            subst (λ ks. IsCooling olds owns (i + 1) (j + 1) (out ++ what_left ∷ []) ks) (sym (append-nil cold)) (leaves_some e)
 
 -- ---- rows without the steps that are gone
 

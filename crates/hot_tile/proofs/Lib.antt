@@ -1,5 +1,6 @@
 pub mod Assembly
 pub mod Changes
+pub mod ColumnLaws
 pub mod CoolLaws
 pub mod FrameLaws
 pub mod GrownRows

@@ -1,6 +1,6 @@
 -- Things in order of a number: what one more, others merged in, and others taken away make of them.
 -- A list in order is read in two parts, what is below a number and what is above it.
-use Rattle.std.proofs.Common.{◌≡◌, refl, ap, sym, ◌∙◌, subst, ℕ, zero, suc, ◌+◌, ◌<◌, ◌≤◌, arith, true, false, cond, List, [], ◌∷◌, ◌++◌, map, length, get_or, set, take, drop, fold, Less, Equal, Greater, append_assoc, add-one, nat_eq}
+use Rattle.std.proofs.Common.{◌≡◌, refl, ap, sym, ◌∙◌, subst, ℕ, zero, suc, ◌+◌, ◌-◌, ◌<◌, ◌≤◌, arith, true, false, cond, List, [], ◌∷◌, ◌++◌, map, length, get_or, set, take, drop, fold, Less, Equal, Greater, append_assoc, add-one, nat_eq}
 use Rattle.std.specs.Prelude.{not, ◌||◌, ◌⊎◌}
 use Rattle.std.specs.List.{filter, AllByRecursion}
 use Rattle.std.specs.List.Sorted.{IsStrictlySortedBy}
@@ -9,11 +9,10 @@ use Rattle.std.proofs.Common.{Ordering, inl, inr}
 use Rattle.std.specs.Cmp.{nat_cmp_is}
 use Rattle.std.specs.BTreeSet.{insert_key}
 use Rattle.std.proofs.lemmas.Bool.Decides.{nat_tests}
-use Rattle.std.proofs.lemmas.List.{take-append-drop, drop_more, drop_all, set_split}
+use Rattle.std.proofs.lemmas.List.{take-append-drop, drop_more, drop_all, drop-drop, length-drop, get_or-drop, take_all, set_split}
 use Rattle.std.proofs.lemmas.Map.Keys.{sorted_head}
 use Rattle.grid_core.proofs.Filters.{all_kept}
 use Rattle.hot_tile.specs.declared.spots.Spot.{Spot}
-use Rattle.hot_tile.specs.Spots.{OldFirst, Tie, OwnFirst}
 use Rattle.hot_tile.specs.Steps.{StepFirst, SameStep, GoneFirst}
 use Rattle.hot_tile.specs.Spots.{keys, both, counted, merged, has_key, fresh_keys}
 
@@ -188,6 +187,32 @@ fresh_both x xs y ys e k =
     ap (λ b. cond (not (b || has_key (keys xs) y.key)) (y.key ∷ fresh_keys (x ∷ xs) ys) (fresh_keys (x ∷ xs) ys)) same
     ∙ fresh_but x xs ys (subst (λ n. AllByRecursion (λ z. n < z.key) ys) (sym e) k)
 
+-- ---- a run of spots below all others
+
+pub below_each : (x k : ℕ) (ys : List Spot) → x < k → AllByRecursion (λ y. k ≤ y.key) ys → AllByRecursion (λ y. x < y.key) ys
+below_each x k [] lt h = tt
+below_each x k (y ∷ ys) lt h = (omega (arith, lt, h.0), below_each x k ys lt h.1)
+
+pub at_least : (k : ℕ) (y : Spot) (ys : List Spot) → k ≡ y.key → AllByRecursion (λ z. k < z.key) ys
+    → AllByRecursion (λ z. k ≤ z.key) (y ∷ ys)
+at_least k y ys e h = (omega (arith, e), weaker ys h)
+  where
+    weaker : (zs : List Spot) → AllByRecursion (λ z. k < z.key) zs → AllByRecursion (λ z. k ≤ z.key) zs
+    weaker [] h = tt
+    weaker (z ∷ zs) h = (omega (arith, h.0), weaker zs h.1)
+
+run_first : (k : ℕ) (run xs ys : List Spot) → AllByRecursion (λ x. x.key < k) run → AllByRecursion (λ y. k ≤ y.key) ys
+    → merged (run ++ xs) ys ≡ run ++ merged xs ys
+run_first k [] xs ys h a = refl
+run_first k (x ∷ run) xs ys h a =
+    old_first x (run ++ xs) ys (below_each x.key k ys h.0 a) ∙ ap (λ zs. x ∷ zs) (run_first k run xs ys h.1 a)
+
+fresh_but_run : (k : ℕ) (run xs ys : List Spot) → AllByRecursion (λ x. x.key < k) run → AllByRecursion (λ y. k ≤ y.key) ys
+    → fresh_keys (run ++ xs) ys ≡ fresh_keys xs ys
+fresh_but_run k [] xs ys h a = refl
+fresh_but_run k (x ∷ run) xs ys h a =
+    fresh_but x (run ++ xs) ys (below_each x.key k ys h.0 a) ∙ fresh_but_run k run xs ys h.1 a
+
 -- the first i and j spots have been merged into `out`, with the new keys among them
 pub record IsMerging (olds owns : List Spot) (i j : ℕ) (out : List Spot) (found : List ℕ) : Type 0 where
   pub spots : out ++ merged (drop i olds) (drop j owns) ≡ merged olds owns
@@ -207,6 +232,30 @@ module _ {olds owns : List Spot} {i j : ℕ} {out : List Spot} {fresh : List ℕ
         fresh =
             ap (λ zs. fresh ++ zs)
             (sym (ap (λ xs. fresh_keys xs (drop j owns)) (drop_more olds i d lt) ∙ fresh_but (get_or olds i d) (drop (i + 1) olds) (drop j owns) above))
+            ∙ m.fresh;
+      }
+
+  pub takes_run : (n : ℕ) → j < length owns → AllByRecursion (λ x. x.key < (get_or owns j d).key) (take n (drop i olds))
+      → AllByRecursion (λ z. (get_or owns j d).key < z.key) (drop (j + 1) owns)
+      → IsMerging olds owns (i + n) j (out ++ take n (drop i olds)) fresh
+  takes_run n lt below after =
+      let run = take n (drop i olds) in
+      let parted : run ++ drop (i + n) olds ≡ drop i olds =
+      ap (λ xs. run ++ xs) (sym (drop-drop n i olds)) ∙ take-append-drop n (drop i olds) in
+      let above : AllByRecursion (λ y. (get_or owns j d).key ≤ y.key) (drop j owns) =
+      subst (AllByRecursion (λ y. (get_or owns j d).key ≤ y.key)) (sym (drop_more owns j d lt))
+      (at_least (get_or owns j d).key (get_or owns j d) (drop (j + 1) owns) refl after) in
+      record {
+        spots =
+            append_assoc out run (merged (drop (i + n) olds) (drop j owns))
+            ∙ ap (λ zs. out ++ zs)
+            (sym (run_first (get_or owns j d).key run (drop (i + n) olds) (drop j owns) below above)
+            ∙ ap (λ xs. merged xs (drop j owns)) parted)
+            ∙ m.spots;
+        fresh =
+            ap (λ zs. fresh ++ zs)
+            (sym (fresh_but_run (get_or owns j d).key run (drop (i + n) olds) (drop j owns) below above)
+            ∙ ap (λ xs. fresh_keys xs (drop j owns)) parted)
             ∙ m.fresh;
       }
 
@@ -253,31 +302,7 @@ equal_cmp x y h = grind (arith, nat_tests)
 greater_cmp : (x y : ℕ) → nat_cmp x y ≡ Greater → y < x
 greater_cmp x y h = grind (arith, nat_tests)
 
--- what the order of two keys tells of the lists from there on
-pub order_tells : (olds owns : List Spot) (i j : ℕ) (d : Spot) → IsStrictlySortedBy nat_cmp (keys olds)
-    → IsStrictlySortedBy nat_cmp (keys owns) → i < length olds → j < length owns → (r : Ordering)
-    → r ≡ nat_cmp (get_or olds i d).key (get_or owns j d).key
-    → MatchOrdering r (OldFirst olds i owns j d) (Tie olds i owns j d) (OwnFirst olds i owns j d)
-order_tells olds owns i j d s s' lt lt' Less e =
-    above_from (λ (x : Spot). x.key) (get_or olds i d).key owns j d lt' s' (less_cmp _ _ (sym e))
-order_tells olds owns i j d s s' lt lt' Equal e =
-    let same = equal_cmp (get_or olds i d).key (get_or owns j d).key (sym e) in
-    record {
-      within = lt';
-      same = same;
-      rest =
-          subst (λ n. AllByRecursion (λ (x : Spot). n < x.key) (drop (i + 1) olds)) same
-          (above_at (λ (x : Spot). x.key) olds i d lt s);
-      own_rest = above_at (λ (x : Spot). x.key) owns j d lt' s';
-    }
-order_tells olds owns i j d s s' lt lt' Greater e =
-    record {
-      within = lt';
-      first = above_from (λ (x : Spot). x.key) (get_or owns j d).key olds i d lt s (greater_cmp (get_or olds i d).key (get_or owns j d).key (sym e));
-      own_rest = above_at (λ (x : Spot). x.key) owns j d lt' s';
-    }
-
--- the same of rows of numbers
+-- rows of numbers, each its own number
 pub rows_mapped : (ks : List ℕ) → map (λ k. k) ks ≡ ks
 rows_mapped [] = refl
 rows_mapped (k ∷ ks) = ap (λ js. k ∷ js) (rows_mapped ks)
@@ -341,6 +366,35 @@ module _ {X : Type 0} (f : X → ℕ) (k : ℕ) (xs : List X) (at : ℕ) (order 
         where
           greater : (k n : ℕ) → k ≤ n → (n ≡ k → ⊥) → k < n
           greater k n le ne = grind arith
+
+-- ---- a search from an index on
+
+-- the slice from an index on is all that is left
+pub left_is : {X : Type 0} (xs : List X) (i : ℕ) → take (length xs - i) (drop i xs) ≡ drop i xs
+left_is xs i = take_all (length xs - i) (drop i xs) (omega (arith, length-drop i xs))
+
+module _ (k : ℕ) (xs : List Spot) (i run : ℕ) (order : IsStrictlySortedBy nat_cmp (keys xs))
+    (lesser : take run (take (length xs - i) (drop i xs))
+    ≡ filter (λ x. is_lt (nat_cmp x.key k)) (take (length xs - i) (drop i xs)))
+    (others : drop run (take (length xs - i) (drop i xs))
+    ≡ filter (λ x. not (is_lt (nat_cmp x.key k))) (take (length xs - i) (drop i xs))) where
+  passed : take run (drop i xs) ≡ filter (λ x. is_lt (nat_cmp x.key k)) (drop i xs)
+  passed = subst (λ ys. take run ys ≡ filter (λ x. is_lt (nat_cmp x.key k)) ys) (left_is xs i) lesser
+
+  behind : drop run (drop i xs) ≡ filter (λ x. not (is_lt (nat_cmp x.key k))) (drop i xs)
+  behind = subst (λ ys. drop run ys ≡ filter (λ x. not (is_lt (nat_cmp x.key k))) ys) (left_is xs i) others
+
+  -- the run that it passed is below the key
+  pub run_below : AllByRecursion (λ x. x.key < k) (take run (drop i xs))
+  run_below = all_below (λ x. x.key) k (drop i xs) run (in_order_from (λ x. x.key) xs i order) passed behind
+
+  -- all behind is above the key, unless what stands there has it
+  pub rest_above : (d : Spot) → (i + run < length xs → (get_or xs (i + run) d).key ≡ k → ⊥)
+      → AllByRecursion (λ x. k < x.key) (drop (i + run) xs)
+  rest_above d other =
+      subst (AllByRecursion (λ x. k < x.key)) (drop-drop run i xs)
+      (all_above (λ x. x.key) k (drop i xs) run (in_order_from (λ x. x.key) xs i order) passed behind d
+      (λ lt e. other (omega (arith, lt, length-drop i xs)) (ap (λ x. x.key) (sym (get_or-drop i xs run d)) ∙ e)))
 
 -- ---- what one more makes, by where a search says that it stands
 

@@ -1,7 +1,7 @@
 -- Hot pixels of a tile by key, with their counts.
-use Rattle.std.specs.Prelude.{◌≡◌, ◌<◌, ◌≤◌, ◌==◌, ℕ, ◌+◌, ◌-◌, Bool, not, ◌&&◌, if◌then◌else◌, List, [], ◌∷◌}
-use Rattle.std.specs.Prelude.{map, filter, fold, sum_by, length, drop, slice_index_or}
-use Rattle.std.specs.List.{list_any, AllByRecursion}
+use Rattle.std.specs.Prelude.{◌≤◌, ◌==◌, ℕ, ◌+◌, ◌-◌, Bool, not, ◌&&◌, if◌then◌else◌, List, [], ◌∷◌}
+use Rattle.std.specs.Prelude.{map, filter, fold, sum_by}
+use Rattle.std.specs.List.{list_any}
 use Rattle.std.specs.Ordering.{nat_cmp, match_ordering}
 use Rattle.hot_tile.specs.declared.spots.Spot.{Spot}
 
@@ -62,22 +62,3 @@ cooled xs ys = filter (λ x. not (is_cold x)) (map (less ys) xs)
 -- the keys of those of which nothing is left
 abbrev pub cold_keys : List Spot → List Spot → List ℕ
 cold_keys xs ys = keys (filter is_cold (map (less ys) xs))
-
--- ---- which of two lists goes on
-
--- the spot at i comes before all others from j on
-abbrev pub OldFirst : List Spot → ℕ → List Spot → ℕ → Spot → Type 0
-OldFirst olds i owns j d = AllByRecursion (λ y. (slice_index_or olds i d).key < y.key) (drop j owns)
-
--- the spots at i and at j have one key, and all behind both come after it
-pub record Tie (olds : List Spot) (i : ℕ) (owns : List Spot) (j : ℕ) (d : Spot) : Type 0 where
-  pub within : j < length owns
-  pub same : (slice_index_or olds i d).key ≡ (slice_index_or owns j d).key
-  pub rest : AllByRecursion (λ x. (slice_index_or owns j d).key < x.key) (drop (i + 1) olds)
-  pub own_rest : AllByRecursion (λ y. (slice_index_or owns j d).key < y.key) (drop (j + 1) owns)
-
--- the other at j comes before all spots from i on, and before all behind it
-pub record OwnFirst (olds : List Spot) (i : ℕ) (owns : List Spot) (j : ℕ) (d : Spot) : Type 0 where
-  pub within : j < length owns
-  pub first : AllByRecursion (λ x. (slice_index_or owns j d).key < x.key) (drop i olds)
-  pub own_rest : AllByRecursion (λ y. (slice_index_or owns j d).key < y.key) (drop (j + 1) owns)

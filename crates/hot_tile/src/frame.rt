@@ -64,6 +64,15 @@ impl Frame {
         Some(65_536 * column + row)
     }
 
+    /// How far a column lies behind the first of the tile, less than 0 where it lies before it.
+    #[inline]
+    pub(crate) fn column_of(&self, x: i64) -> i64
+        requires { unsigned_abs x ≤ 2 ^ 31 }
+        ensures { result ≡ x -ℤ (lowest self.now).x }
+    {
+        x - self.lo.x
+    }
+
     /// The pixel with this key.
     #[inline]
     #[tactic(auto, unfolding(crate::specs::Frame::pixel_at))]

@@ -15,6 +15,8 @@ use std::alloc::Global;
 impl Tile {
     ghost use Rattle.std.specs.Prelude.{◌≡◌, ◌<◌, ◌≤◌, ◌+◌, ◌-◌, ◌^◌, ◌++◌, IsTrue, Contains};
     ghost use Rattle.std.specs.Prelude.{length, map, take, drop, IfOk, OnOk};
+    ghost use Rattle.std.specs.Ordering.{nat_cmp};
+    ghost use Rattle.std.specs.List.Sorted.{IsStrictlySortedBy};
     ghost use Rattle.grid_core.specs.Vector.{IsWithin};
     ghost use Rattle.grid_core.specs.Segment.{IsSegment};
     ghost use Rattle.grid_core.specs.LiveList.{names, with_segment};
@@ -88,6 +90,7 @@ impl Tile {
         rows: &mut Rows,
     ) -> Result<Option<Box<HotPart>>, Memory>
         requires within { at ≤ length self.now.segments }
+        requires rising { IsStrictlySortedBy nat_cmp (keys spots.now) }
         requires near { IsWithin (2 ^ 30 + 2 ^ 16) (lowest (frame_of self.now)) }
         ensures { IfOk result (λ d. IsHotPart d spots.now
             (grown_paths self.now at s.now (keys spots.now) fresh.now)) }

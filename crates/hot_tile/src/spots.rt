@@ -1,14 +1,13 @@
 //! Hot pixels of a tile by key, with their counts: what is more is merged, and what is less taken away.
 
 ghost use Rattle.std.specs.Prelude.{◌≡◌, ◌+◌, ◌-◌, ◌<◌, ◌≤◌, ◌^◌, false, not, All, OnOk};
-ghost use Rattle.std.specs.Prelude.{length, take, drop, filter};
-ghost use Rattle.std.specs.Ordering.{nat_cmp, is_lt, MatchOrdering};
+ghost use Rattle.std.specs.Prelude.{length, take, drop, filter, if◌then◌else◌, [], ◌∷◌, ◌++◌};
+ghost use Rattle.std.specs.Ordering.{nat_cmp, is_lt};
 ghost use Rattle.std.specs.List.Sorted.{IsStrictlySortedBy};
 ghost use Rattle.hot_tile.specs.Spots.{keys, counted, merged, fresh_keys, is_cold, cooled};
-ghost use Rattle.hot_tile.specs.Spots.{cold_keys, IsSmall, OldFirst, Tie, OwnFirst};
+ghost use Rattle.hot_tile.specs.Spots.{cold_keys, IsSmall};
 
 use grid_core::Memory;
-use std::cmp::Ordering;
 
 /// A hot pixel of a tile with its counts, or what is counted at a pixel.
 #[derive(Clone, Copy)]
@@ -63,24 +62,9 @@ pub(crate) fn count(spots: &mut Vec<Spot>, more: Spot) -> Result<(), Memory>
     Ok(())
 }
 
-/// Which of two spots of two lists, each in order of key, comes first.
-#[inline(always)]
-fn order(olds: &[Spot], i: usize, owns: &[Spot], j: usize) -> Ordering
-    requires rising { IsStrictlySortedBy nat_cmp (keys olds.now) }
-    requires own_rising { IsStrictlySortedBy nat_cmp (keys owns.now) }
-    requires within { i < length olds.now }
-    requires own_within { j ≤ length owns.now }
-    ensures { (d : Spot) → MatchOrdering result (OldFirst olds.now i owns.now j d)
-        (Tie olds.now i owns.now j d) (OwnFirst olds.now i owns.now j d) }
-{
-    if j == owns.len() {
-        return Ordering::Less;
-    }
-    olds[i].key.cmp(&owns[j].key)
-}
-
 /// Makes `spots` all of `olds` and `owns`, counted together, and `fresh` the keys that are new. Both
-/// lists stand in order of key.
+/// lists stand in order of key. The olds between two of the owns, which are few, are copied in one
+/// run.
 pub(crate) fn merge(
     olds: &[Spot],
     owns: &[Spot],
@@ -97,30 +81,19 @@ pub(crate) fn merge(
     spots.clear();
     fresh.clear();
     let mut i = 0;
-    let mut j = 0;
-    'olds: while i < olds.len() {
-        match order(olds, i, owns, j) {
-            Ordering::Less => {
-                spots.push(olds[i])?;
-                i += 1;
-            }
-            Ordering::Equal => {
-                spots.push(both(olds[i], owns[j]))?;
-                i += 1;
-                j += 1;
-            }
-            Ordering::Greater => {
-                spots.push(owns[j])?;
-                fresh.push(owns[j].key)?;
-                j += 1;
-            }
+    for own in owns {
+        let run = index_of_key(&olds[i..], own.key);
+        spots.extend_from_slice(&olds[i..i + run])?;
+        i += run;
+        if i < olds.len() && olds[i].key == own.key {
+            spots.push(both(olds[i], *own))?;
+            i += 1;
+        } else {
+            spots.push(*own)?;
+            fresh.push(own.key)?;
         }
     }
-    'owns: while j < owns.len() {
-        spots.push(owns[j])?;
-        fresh.push(owns[j].key)?;
-        j += 1;
-    }
+    spots.extend_from_slice(&olds[i..])?;
     Ok(())
 }
 
@@ -141,25 +114,31 @@ pub(crate) fn cool(
     spots.clear();
     cold.clear();
     let mut i = 0;
-    let mut j = 0;
-    'olds: while i < olds.len() {
-        match order(olds, i, owns, j) {
-            Ordering::Less => {
-                spots.push(olds[i])?;
-                i += 1;
-            }
-            Ordering::Equal => {
-                let left = less(olds[i], owns[j]);
-                if is_cold(left) {
-                    cold.push(left.key)?;
-                } else {
-                    spots.push(left)?;
-                }
-                i += 1;
-                j += 1;
-            }
-            Ordering::Greater => j += 1,
+    for own in owns {
+        let run = index_of_key(&olds[i..], own.key);
+        spots.extend_from_slice(&olds[i..i + run])?;
+        i += run;
+        if i < olds.len() && olds[i].key == own.key {
+            push_left(less(olds[i], *own), spots, cold)?;
+            i += 1;
         }
+    }
+    spots.extend_from_slice(&olds[i..])?;
+    Ok(())
+}
+
+/// Puts what is left of a hot pixel behind the others, or its key behind those that became cold.
+#[inline(always)]
+fn push_left(left: Spot, spots: &mut Vec<Spot>, cold: &mut Vec<u32>) -> Result<(), Memory>
+    ensures spots { OnOk result (spots.new.items
+        ≡ spots.old.items ++ (if is_cold left then [] else left ∷ [])) }
+    ensures cold { OnOk result (cold.new.items
+        ≡ cold.old.items ++ (if is_cold left then left.key ∷ [] else [])) }
+{
+    if is_cold(left) {
+        cold.push(left.key)?;
+    } else {
+        spots.push(left)?;
     }
     Ok(())
 }

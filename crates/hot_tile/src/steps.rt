@@ -1,12 +1,13 @@
 //! Rows of steps: the passes of a segment through the hot pixels of a tile, in order along it.
 
 ghost use Rattle.std.specs.Prelude.{◌≡◌, ◌+◌, ◌<◌, ◌≤◌, ◌^◌, [], not, OnOk};
-ghost use Rattle.std.specs.Prelude.{length, take, drop, filter, slice_index_or, IsTrue};
+ghost use Rattle.std.specs.Prelude.{length, take, drop, filter, slice_index_or, IsTrue, All};
+ghost use Rattle.std.specs.Prelude.{unsigned_abs, ◌<ℤ◌, ◌≤ℤ◌};
 ghost use Rattle.std.specs.Ordering.{nat_cmp, is_lt, MatchOrdering};
 ghost use Rattle.std.specs.List.Sorted.{IsStrictlySortedBy};
 ghost use Rattle.std.specs.BTreeSet.{insert_key};
 ghost use Rattle.grid_core.specs.Vector.{IsWithin};
-ghost use Rattle.hot_tile.specs.Frame.{lowest};
+ghost use Rattle.hot_tile.specs.Frame.{lowest, pixel_at};
 ghost use Rattle.hot_tile.specs.Spots.{keys};
 ghost use Rattle.grid_core.specs.Segment.{IsSegment};
 ghost use Rattle.grid_core.specs.Meets.{box_of};
@@ -81,6 +82,29 @@ pub(crate) fn grow_row(
     Ok(())
 }
 
+/// How many of the hot pixels, which stand in order of key, lie left of the column `x`.
+fn count_left(frame: &Frame, spots: &[Spot], x: i64) -> usize
+    requires rising { IsStrictlySortedBy nat_cmp (keys spots.now) }
+    requires small { unsigned_abs x ≤ 2 ^ 31 }
+    ensures within { result ≤ length spots.now }
+    ensures left { All (λ y. (pixel_at frame.now y.key).x <ℤ x) (take result spots.now) }
+    ensures others { All (λ y. x ≤ℤ (pixel_at frame.now y.key).x) (drop result spots.now) }
+{
+    let column = frame.column_of(x);
+    spots.partition_point(|y| i64::from(y.key / 65_536) < column)
+}
+
+/// Those of the hot pixels, which stand in order of key, that lie in the columns of `u`: it meets no
+/// others.
+fn in_columns<'a>(frame: &Frame, u: &Ur, spots: &'a [Spot]) -> &'a [Spot]
+    requires rising { IsStrictlySortedBy nat_cmp (keys spots.now) }
+    ensures { filter (meets_key frame.now u.now) (keys result.now)
+        ≡ filter (meets_key frame.now u.now) (keys spots.now) }
+{
+    let spots = &spots[count_left(frame, spots, u.p().x)..];
+    &spots[..count_left(frame, spots, u.q().x + 1)]
+}
+
 /// Makes `row` the row of `s` in a tile with these hot pixels.
 pub(crate) fn make_row(
     row: &mut Vec<u32>,
@@ -88,11 +112,12 @@ pub(crate) fn make_row(
     s: &Ur,
     spots: &[Spot],
 ) -> Result<(), Memory>
-    requires { IsWithin (2 ^ 30 + 2 ^ 16) (lowest frame.now) }
+    requires rising { IsStrictlySortedBy nat_cmp (keys spots.now) }
+    requires near { IsWithin (2 ^ 30 + 2 ^ 16) (lowest frame.now) }
     ensures { OnOk result (row.new.items ≡ grown_row frame.now s.now [] (keys spots.now)) }
 {
     row.clear();
-    for spot in spots {
+    for spot in in_columns(frame, s, spots) {
         if meets_key(frame, s, spot.key) {
             put(row, step_of(s, spot.key))?;
         }

@@ -12,5 +12,5 @@ pub put-requires : goal.put-requires
 put-requires c =
     subst (IsStrictlySortedBy nat_cmp) (sym c.loop-spot.invariant)
     (folded_rises []
-    (map (step_of c.args.s.now) (filter (meets_key c.args.frame.now c.args.s.now) (keys (take c.loop-spot.spot-index c.args.spots.now))))
+    (map (step_of c.args.s.now) (filter (meets_key c.args.frame.now c.args.s.now) (keys (take c.loop-spot.spot-index c.in_columns-spot-items.result.now))))
     none_rises)

@@ -15,7 +15,7 @@ use Rattle.hot_tile.specs.Own.{own_spots}
 use Rattle.hot_tile.specs.Tile.{TileContent, IsTile, frame_of, spots_in}
 use Rattle.hot_tile.specs.HotPart.{part_spots, part_rows}
 use Rattle.hot_tile.proofs.InTile.{near_bound}
-use Rattle.hot_tile.proofs.OwnLaws.{own_rises, own_small}
+use Rattle.hot_tile.proofs.OwnLaws.{counted_rises, own_rises, own_small}
 use Rattle.hot_tile.proofs.Assembly.{IsComing, put_in}
 use Rattle.hot_tile.proofs.Changes.{grown}
 use Rattle.hot_tile.proofs.tile.Tile.with_segment_in.Goals as goal
@@ -32,6 +32,11 @@ merge-requires-clause-own_small c =
     (All-from_recursion (IsSmall (2 ^ 30) (2 ^ 30)) (own_spots c.frame.result c.segments-segments.result.now c.args.s.now)
     (own_small c.frame.result c.segments-segments.result.now c.args.s.now
     (subst (λ (us : List Segment). length us ≤ 65536) (sym c.segments-segments.ensures.value) c.segments-segments.ensures.few)))
+
+pub hot_part_with-requires-clause-rising : goal.hot_part_with-requires-clause-rising
+hot_part_with-requires-clause-rising c =
+    subst (λ (xs : List Spot). IsStrictlySortedBy nat_cmp (keys xs)) (sym (c.deref-2.ensures.value ∙ c.in_ok-merge.ensures.spots))
+    (counted_rises c.spots.result.now c.deref.result.now c.spots.ensures.rising)
 
 pub hot_part_with-requires-clause-near : goal.hot_part_with-requires-clause-near
 hot_part_with-requires-clause-near c =
