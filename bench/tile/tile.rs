@@ -171,6 +171,11 @@ fn step(s: &Segment, key: u32) -> u32 {
     if s.falls() { key ^ 0xffff } else { key }
 }
 
+/// Those of the spots, in order of key, that stand before the key.
+fn run_before(spots: &[Spot], key: u32) -> &[Spot] {
+    &spots[..spots.partition_point(|v| v.key < key)]
+}
+
 fn tally(own: &mut Vec<Spot>, key: u32, ends: u32, crossings: u32) {
     let at = own.partition_point(|o| o.key < key);
     match own.get_mut(at) {
@@ -280,9 +285,7 @@ impl Tile {
         fresh.clear();
         let mut i = 0;
         for o in own {
-            while i < spots.len() && spots[i].key < o.key {
-                i += 1;
-            }
+            i += run_before(&spots[i..], o.key).len();
             if i == spots.len() || spots[i].key != o.key {
                 fresh.push(o.key);
             }
@@ -290,10 +293,9 @@ impl Tile {
         let mut merged = Vec::with_capacity(spots.len() + fresh.len());
         let mut i = 0;
         for o in own {
-            while i < spots.len() && spots[i].key < o.key {
-                merged.push(spots[i]);
-                i += 1;
-            }
+            let run = run_before(&spots[i..], o.key);
+            merged.extend_from_slice(run);
+            i += run.len();
             if i < spots.len() && spots[i].key == o.key {
                 merged.push(Spot { key: o.key, ends: spots[i].ends + o.ends, crossings: spots[i].crossings + o.crossings });
                 i += 1;
@@ -361,9 +363,7 @@ impl Tile {
         cold.clear();
         let mut i = 0;
         for o in own {
-            while spots[i].key < o.key {
-                i += 1;
-            }
+            i += run_before(&spots[i..], o.key).len();
             if spots[i].ends == o.ends && spots[i].crossings == o.crossings {
                 cold.push(o.key);
             }
@@ -374,10 +374,9 @@ impl Tile {
         let mut left = Vec::with_capacity(spots.len() - cold.len());
         let mut i = 0;
         for o in own {
-            while spots[i].key < o.key {
-                left.push(spots[i]);
-                i += 1;
-            }
+            let run = run_before(&spots[i..], o.key);
+            left.extend_from_slice(run);
+            i += run.len();
             if spots[i].ends != o.ends || spots[i].crossings != o.crossings {
                 left.push(Spot { key: o.key, ends: spots[i].ends - o.ends, crossings: spots[i].crossings - o.crossings });
             }
