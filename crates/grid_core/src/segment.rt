@@ -46,7 +46,8 @@ impl Ur {
     ghost use Rattle.grid_core.specs.Vector.{IsWithin, IsOutside};
     ghost use Rattle.grid_core.specs.Segment.{IsSegment, segment_of};
 
-    /// The segment between `a` and `b`, given in either order.
+    /// The segment between `a` and `b`, given in either order. `Range` where a coordinate of either is
+    /// greater than the profile's bound in size, and else `Point` where they are one point.
     pub fn new(profile: &Profile, name: Name, a: Point, b: Point) -> Result<Ur, EndFault>
         ensures range { IsErrOf result EndFault.Range
             ↔ (IsOutside profile.now.bound a ⊎ IsOutside profile.now.bound b) }

@@ -53,7 +53,7 @@ impl PartialOrd for TileId {
     }
 }
 
-/// The tile in which the pixel `at` lies.
+/// The tile in which the pixel `at` lies. Its coordinates are at most the profile's bound in size.
 #[inline]
 pub fn tile_of(profile: &Profile, at: Point) -> TileId
     requires { IsWithin profile.now.bound at }

@@ -19,7 +19,8 @@ pub fn is_at(at: Point, h: Point) -> bool
     query_point(h) == at
 }
 
-/// Whether the query point is a point of the edge, ends included.
+/// Whether the query point, in 1/256 of a pixel and at most 2^40 in size, is a point of the edge, ends
+/// included. The edge is in pixels, at most 2^30 in size.
 #[inline(always)]
 pub fn lies_on(at: Point, e: &Edge) -> bool
     requires at_within { IsWithin (2 ^ 40) at }
@@ -129,7 +130,7 @@ pub(crate) fn direction(e: &Edge) -> Point
     vector(e.a(), e.b())
 }
 
-/// A grid point as a query point. At most 2^38 in size.
+/// A grid point, at most 2^30 in size, as a query point: in 1/256 of a pixel, at most 2^38 in size.
 #[inline(always)]
 pub fn query_point(h: Point) -> Point
     requires { IsWithin (2 ^ 30) h }

@@ -41,7 +41,7 @@ impl Change {
         Ok(Change { editor, edits })
     }
 
-    /// The change with one edit more, at its end.
+    /// The change, which has fewer than 32 edits, with one edit more at its end.
     pub fn and(&self, edit: Edit) -> Result<Change, Memory>
         requires { length self.now.edits < 32 }
         ensures { IfOk result (λ c. c ≡ record self.now { edits = self.now.edits ++ edit ∷ [] }) }

@@ -111,6 +111,7 @@ impl Version {
     }
 
     /// The hot pixels that the live segment of this name passes through, from its `p` to its `q`.
+    /// `Unknown` where no live segment has the name.
     pub fn route(&self, name: Name, looked: &mut Looked) -> Result<Vec<Point>, RouteFault>
         requires brand { self.now.brand ≡ looked.old.brand }
         ensures value { IfOk result (λ points. IfSome (segment_in self.now.live name)
