@@ -1,28 +1,25 @@
--- The columns of a segment: hot pixels stand in order of their columns, and a segment meets none that lies left
--- or right of its own.
-use Rattle.std.proofs.Common.{◌≡◌, refl, ap, sym, ◌∙◌, subst, ℕ, ◌<◌, ◌≤◌, ◌/◌, arith, Bool, true, false, cond, Less, List, [], ◌∷◌, ◌++◌, length, get_or, take, drop}
-use Rattle.std.specs.Prelude.{ℤ, pos, ◌+ℤ◌, ◌-ℤ◌, ◌<ℤ◌, ◌≤ℤ◌, int_lt, int_le, ◌&&◌, ◌⊎◌}
-use Rattle.std.proofs.Common.{inl, inr}
+-- The columns of a segment: pixels in order of key stand in order of their columns, and a segment meets none that
+-- lies left or right of its own.
+use Rattle.std.proofs.Common.{◌≡◌, refl, ap, sym, ◌∙◌, ℕ, ◌<◌, ◌≤◌, ◌/◌, arith, Bool, true, false, cond, Less, List, [], ◌∷◌, ◌++◌, map, take, drop}
+use Rattle.std.specs.Prelude.{ℤ, pos, ◌+ℤ◌, ◌-ℤ◌, ◌<ℤ◌, ◌≤ℤ◌, int_lt, int_le, ◌&&◌}
 use Rattle.std.specs.List.{filter, AllByRecursion}
 use Rattle.std.specs.List.Sorted.{IsStrictlySortedBy, IsPartitionedBy}
 use Rattle.std.specs.Ordering.{nat_cmp}
 use Rattle.std.proofs.lemmas.Int.{ints}
-use Rattle.std.proofs.lemmas.List.{append-nil, map-append, take-append-drop, get_or-map, length-map}
+use Rattle.std.proofs.lemmas.List.{append-nil, map-append, take-append-drop}
 use Rattle.std.proofs.lemmas.List.Elements.{filter-append}
-use Rattle.std.proofs.lemmas.Map.Keys.{Less-from_sorted}
 use Rattle.grid_core.specs.Vector.{point_cmp}
 use Rattle.grid_core.specs.Segment.{Segment}
 use Rattle.grid_core.specs.Meets.{box_of}
 use Rattle.grid_core.proofs.Signed.{signed, lt_true, from_lt_true, le_false}
 use Rattle.pixel_test.specs.Corners.{overlaps_of, shares_rows_of, straddles_of}
 use Rattle.pixel_test.proofs.CornerTest.{corner_test}
-use Rattle.hot_tile.specs.declared.spots.Spot.{Spot}
 use Rattle.hot_tile.specs.Frame.{TileFrame, lowest, pixel_at}
-use Rattle.hot_tile.specs.Spots.{keys}
 use Rattle.hot_tile.specs.Steps.{meets_key}
+use Rattle.hot_tile.proofs.Parted.{parted}
 use Rattle.hot_tile.proofs.SpotLaws.{less_cmp}
 
--- ---- hot pixels by columns
+-- ---- pixels by columns
 
 no_later : (a b : ℕ) (column : ℤ) → a < b → int_lt (pos (b / 65536)) column ≡ true → int_lt (pos (a / 65536)) column ≡ true
 no_later a b column lt h =
@@ -31,21 +28,10 @@ no_later a b column lt h =
     lt_true (pos (a / 65536)) column (omega (arith, ints, left, le))
 
 -- those before one that is left of a column are left of it too
-pub columns_parted : (column : ℤ) (xs : List Spot) → IsStrictlySortedBy nat_cmp (keys xs)
-    → IsPartitionedBy (λ x. int_lt (pos (x.key / 65536)) column) xs
-columns_parted column xs s i j d le lt left = by (cases i j le)
-  where
-    cases : (i j : ℕ) → i ≤ j → (i ≡ j) ⊎ (i < j)
-    cases i j le = grind arith
-
-    by : (i ≡ j) ⊎ (i < j) → int_lt (pos ((get_or xs i d).key / 65536)) column ≡ true
-    by (inl e) = subst (λ k. int_lt (pos ((get_or xs k d).key / 65536)) column ≡ true) (sym e) left
-    by (inr less) =
-        let within : j < length (keys xs) = subst (λ k. j < k) (sym (length-map xs (λ x. x.key))) lt in
-        let first = Less-from_sorted nat_cmp (keys xs) i j d.key s less within in
-        let step : nat_cmp (get_or xs i d).key (get_or xs j d).key ≡ Less =
-        (λ k. nat_cmp (sym (get_or-map (λ x. x.key) xs i d d.key (omega (arith, less, lt))) k) (sym (get_or-map (λ x. x.key) xs j d d.key lt) k)) ∙ first in
-        no_later (get_or xs i d).key (get_or xs j d).key column (less_cmp _ _ step) left
+pub columns_parted : {X : Type 0} (key : X → ℕ) (column : ℤ) (xs : List X) → IsStrictlySortedBy nat_cmp (map key xs)
+    → IsPartitionedBy (λ x. int_lt (pos (key x / 65536)) column) xs
+columns_parted key column =
+    parted nat_cmp key (λ x. int_lt (pos (key x / 65536)) column) (λ x y less. no_later (key x) (key y) column (less_cmp (key x) (key y) less))
 
 -- left of a column, and not left of it
 pub left_of : (f : TileFrame) (k : ℕ) (x column : ℤ) → column ≡ x -ℤ (lowest f).x → int_lt (pos (k / 65536)) column ≡ true
@@ -60,60 +46,72 @@ not_left_of f k x column e h = omega (arith, ints, e, h)
 
 -- ---- pixels that aren't met
 
-module _ (f : TileFrame) (u : Segment) (ordered : point_cmp u.p u.q ≡ Less) where
-  unmet : (h : _) → overlaps_of u (box_of (pixel_at f h)) ≡ false → meets_key f u h ≡ false
-  unmet k apart =
-      sym (corner_test u (box_of (pixel_at f k)) ordered (omega (arith, signed)) (omega (arith, signed)))
-      ∙ ap (λ b. b && straddles_of u (box_of (pixel_at f k))) apart
+pub unmet : (f : TileFrame) (u : Segment) (ordered : point_cmp u.p u.q ≡ Less) (k : ℕ)
+    → overlaps_of u (box_of (pixel_at f k)) ≡ false → meets_key f u k ≡ false
+unmet f u ordered k apart =
+    sym (corner_test u (box_of (pixel_at f k)) ordered (omega (arith, signed)) (omega (arith, signed)))
+    ∙ ap (λ b. b && straddles_of u (box_of (pixel_at f k))) apart
 
+-- ---- what passes a test
+
+module _ {X : Type 0} (key : X → ℕ) (p : ℕ → Bool) where
+  none_of : (xs : List X) → AllByRecursion (λ x. p (key x) ≡ false) xs → filter p (map key xs) ≡ []
+  none_of [] h = refl
+  none_of (x ∷ xs) h = ap (λ b. cond b (key x ∷ filter p (map key xs)) (filter p (map key xs))) h.0 ∙ none_of xs h.1
+
+  in_two : (n : ℕ) (xs : List X) → filter p (map key xs) ≡ filter p (map key (take n xs)) ++ filter p (map key (drop n xs))
+  in_two n xs =
+      ap (λ ys. filter p (map key ys)) (sym (take-append-drop n xs))
+      ∙ ap (filter p) (map-append key (take n xs) (drop n xs))
+      ∙ filter-append p (map key (take n xs)) (map key (drop n xs))
+
+  -- where those in front don't pass, they may be left out
+  but_front : (n : ℕ) (xs : List X) → AllByRecursion (λ x. p (key x) ≡ false) (take n xs)
+      → filter p (map key (drop n xs)) ≡ filter p (map key xs)
+  but_front n xs h = sym (in_two n xs ∙ ap (λ ks. ks ++ filter p (map key (drop n xs))) (none_of (take n xs) h))
+
+  -- and so may those behind
+  but_back : (n : ℕ) (xs : List X) → AllByRecursion (λ x. p (key x) ≡ false) (drop n xs)
+      → filter p (map key (take n xs)) ≡ filter p (map key xs)
+  but_back n xs h =
+      sym (in_two n xs ∙ ap (λ ks. filter p (map key (take n xs)) ++ ks) (none_of (drop n xs) h)
+      ∙ append-nil (filter p (map key (take n xs))))
+
+module _ {X : Type 0} (key : X → ℕ) (f : TileFrame) (u : Segment) (ordered : point_cmp u.p u.q ≡ Less) where
   not_beside : (a : Bool) → (a && false) ≡ false
   not_beside true = refl
   not_beside false = refl
 
   -- none is met left of the first column
-  pub none_left : (xs : List Spot) → AllByRecursion (λ y. (pixel_at f y.key).x <ℤ u.p.x) xs
-      → AllByRecursion (λ y. meets_key f u y.key ≡ false) xs
+  none_left : (xs : List X) → AllByRecursion (λ x. (pixel_at f (key x)).x <ℤ u.p.x) xs
+      → AllByRecursion (λ x. meets_key f u (key x) ≡ false) xs
   none_left [] h = tt
   none_left (x ∷ xs) h =
-      let before = le_false u.p.x (pixel_at f x.key).x h.0 in (
-        unmet x.key
-            (ap (λ b. (b && int_le (pixel_at f x.key).x u.q.x) && shares_rows_of u.p.y u.q.y (box_of (pixel_at f x.key))) before),
+      let h0 = pixel_at f (key x) in
+      let before = le_false u.p.x h0.x h.0 in (
+        unmet f u ordered (key x) (ap (λ b. (b && int_le h0.x u.q.x) && shares_rows_of u.p.y u.q.y (box_of h0)) before),
         none_left xs h.1,
       )
 
   -- and none behind the last
-  pub none_right : (xs : List Spot) → AllByRecursion (λ y. (u.q.x +ℤ pos 1) ≤ℤ (pixel_at f y.key).x) xs
-      → AllByRecursion (λ y. meets_key f u y.key ≡ false) xs
+  none_right : (xs : List X) → AllByRecursion (λ x. (u.q.x +ℤ pos 1) ≤ℤ (pixel_at f (key x)).x) xs
+      → AllByRecursion (λ x. meets_key f u (key x) ≡ false) xs
   none_right [] h = tt
   none_right (x ∷ xs) h =
-      let behind = le_false (pixel_at f x.key).x u.q.x (omega (arith, ints, h.0)) in (
-        unmet x.key
-            (ap (λ b. b && shares_rows_of u.p.y u.q.y (box_of (pixel_at f x.key)))
-            (ap (λ b. int_le u.p.x (pixel_at f x.key).x && b) behind ∙ not_beside (int_le u.p.x (pixel_at f x.key).x))),
+      let h0 = pixel_at f (key x) in
+      let behind = le_false h0.x u.q.x (omega (arith, ints, h.0)) in (
+        unmet f u ordered (key x)
+            (ap (λ b. b && shares_rows_of u.p.y u.q.y (box_of h0))
+            (ap (λ b. int_le u.p.x h0.x && b) behind ∙ not_beside (int_le u.p.x h0.x))),
         none_right xs h.1,
       )
 
--- ---- what is left of the hot pixels that pass a test
-
-module _ (p : ℕ → Bool) where
-  none_of : (xs : List Spot) → AllByRecursion (λ y. p y.key ≡ false) xs → filter p (keys xs) ≡ []
-  none_of [] h = refl
-  none_of (x ∷ xs) h = ap (λ b. cond b (x.key ∷ filter p (keys xs)) (filter p (keys xs))) h.0 ∙ none_of xs h.1
-
-  parted : (n : ℕ) (xs : List Spot) → filter p (keys xs) ≡ filter p (keys (take n xs)) ++ filter p (keys (drop n xs))
-  parted n xs =
-      ap (λ ys. filter p (keys ys)) (sym (take-append-drop n xs))
-      ∙ ap (filter p) (map-append (λ x. x.key) (take n xs) (drop n xs))
-      ∙ filter-append p (keys (take n xs)) (keys (drop n xs))
-
-  -- those in front pass no test: they may be left out
-  pub but_front : (n : ℕ) (xs : List Spot) → AllByRecursion (λ y. p y.key ≡ false) (take n xs)
-      → filter p (keys (drop n xs)) ≡ filter p (keys xs)
-  but_front n xs h = sym (parted n xs ∙ ap (λ ks. ks ++ filter p (keys (drop n xs))) (none_of (take n xs) h))
-
-  -- and so may those behind
-  pub but_back : (n : ℕ) (xs : List Spot) → AllByRecursion (λ y. p y.key ≡ false) (drop n xs)
-      → filter p (keys (take n xs)) ≡ filter p (keys xs)
-  but_back n xs h =
-      sym (parted n xs ∙ ap (λ ks. filter p (keys (take n xs)) ++ ks) (none_of (drop n xs) h)
-      ∙ append-nil (filter p (keys (take n xs))))
+  -- so those left of the first column and those behind the last may be left out
+  pub met_in_columns : (n m : ℕ) (xs ys : List X) → ys ≡ drop n xs
+      → AllByRecursion (λ x. (pixel_at f (key x)).x <ℤ u.p.x) (take n xs)
+      → AllByRecursion (λ x. (u.q.x +ℤ pos 1) ≤ℤ (pixel_at f (key x)).x) (drop m ys)
+      → filter (meets_key f u) (map key (take m ys)) ≡ filter (meets_key f u) (map key xs)
+  met_in_columns n m xs ys is left right =
+      but_back key (meets_key f u) m ys (none_right (drop m ys) right)
+      ∙ ap (λ zs. filter (meets_key f u) (map key zs)) is
+      ∙ but_front key (meets_key f u) n xs (none_left (take n xs) left)

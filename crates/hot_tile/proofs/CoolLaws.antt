@@ -4,13 +4,12 @@ use Rattle.std.proofs.Common.{◌≡◌, refl, ap, sym, ◌∙◌, subst, ℕ, �
 use Rattle.std.specs.Prelude.{sum_by, not, ◌||◌}
 use Rattle.std.specs.List.{filter, AllByRecursion}
 use Rattle.std.proofs.lemmas.Bool.Decides.{nat_tests}
-use Rattle.std.proofs.lemmas.List.{append-nil, take-append-drop, drop_more, drop_all, drop-drop, length-drop, take_all}
+use Rattle.std.proofs.lemmas.List.{append-nil, drop_more, drop_all, length-drop, take_all}
 use Rattle.std.proofs.lemmas.List.Sums.{sum_by-cons}
-use Rattle.grid_core.proofs.Filters.{every_kept}
 use Rattle.hot_tile.specs.declared.spots.Spot.{Spot}
 use Rattle.hot_tile.specs.Spots.{keys, has_key, ends_counted, crossings_counted, less, is_cold, cooled, cold_keys}
 use Rattle.hot_tile.specs.Steps.{thinned_row}
-use Rattle.hot_tile.proofs.SpotLaws.{below_each, at_least}
+use Rattle.hot_tile.proofs.SpotLaws.{below_each, at_least, run_joined}
 
 other_key : (j k : ℕ) → k < j → nat_eq j k ≡ false
 other_key j k h = grind (arith, nat_tests)
@@ -121,8 +120,7 @@ module _ {olds owns : List Spot} {i j : ℕ} {out : List Spot} {cold : List ℕ}
       → IsCooling olds owns (i + n) j (out ++ take n (drop i olds)) cold
   leaves_run n lt warm below after =
       let run = take n (drop i olds) in
-      let joined : run ++ drop (i + n) olds ≡ drop i olds =
-      ap (λ xs. run ++ xs) (sym (drop-drop n i olds)) ∙ take-append-drop n (drop i olds) in
+      let joined = run_joined i n olds in
       let above : AllByRecursion (λ y. (get_or owns j d).key ≤ y.key) (drop j owns) =
       subst (AllByRecursion (λ y. (get_or owns j d).key ≤ y.key)) (sym (drop_more owns j d lt))
       (at_least (get_or owns j d).key (get_or owns j d) (drop (j + 1) owns) refl after) in
@@ -239,6 +237,11 @@ thinned_but g gone [] h = refl
 thinned_but g gone (k ∷ old) h =
     λ i. cond (not (lesser_key g k h.0 i || has_key gone k)) (k ∷ thinned_but g gone old h.1 i) (thinned_but g gone old h.1 i)
 
+-- where none is gone all stay
+pub none_gone : (old : List ℕ) → thinned_row [] old ≡ old
+none_gone [] = refl
+none_gone (k ∷ old) = ap (λ ks. k ∷ ks) (none_gone old)
+
 -- the first i steps have been written to `out`, less the first j that are gone
 pub record IsThinning (old gone : List ℕ) (i j : ℕ) (out : List ℕ) : Type 0 where
   pub steps : out ++ thinned_row (drop j gone) (drop i old) ≡ thinned_row gone old
@@ -279,10 +282,6 @@ module _ {old gone : List ℕ} {i j : ℕ} {out : List ℕ} (m : IsThinning old 
         ∙ m.steps;
   }
 
-  all_kept_of : (ks : List ℕ) → AllByRecursion (λ (k : ℕ). true ≡ true) ks
-  all_kept_of [] = tt
-  all_kept_of (k ∷ ks) = (refl, all_kept_of ks)
-
   -- where no step is left, or nothing that is gone, the others stay
   pub keeps_rest : (length old ≤ i) ⊎ (length gone ≤ j) → out ++ take (length old - i) (drop i old) ≡ thinned_row gone old
   keeps_rest ended = ap (λ ks. out ++ ks) (take_all (length old - i) (drop i old) (omega (arith, length-drop i old))) ∙ rest_kept ended
@@ -292,5 +291,5 @@ module _ {old gone : List ℕ} {i j : ℕ} {out : List ℕ} (m : IsThinning old 
           (λ k. out ++ drop_all i old h k) ∙ sym (λ k. out ++ thinned_row (drop j gone) (drop_all i old h k)) ∙ m.steps
       rest_kept (inr h) =
           sym (ap (λ gs. out ++ thinned_row gs (drop i old)) (drop_all j gone h)
-          ∙ ap (λ zs. out ++ zs) (every_kept (λ k. true) (drop i old) (all_kept_of (drop i old))))
+          ∙ ap (λ zs. out ++ zs) (none_gone (drop i old)))
           ∙ m.steps

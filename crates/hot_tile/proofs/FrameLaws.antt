@@ -4,7 +4,7 @@
 -- its row in the tile are two digits of its key.
 use Rattle.std.proofs.Common.{◌≡◌, refl, ap, sym, ◌∙◌, subst, ℕ, ◌+◌, ◌-◌, ◌*◌, ◌/◌, ◌%◌, ◌<◌, ◌≤◌, arith, Bool, true, false}
 use Rattle.std.proofs.Common.{IsTrue, Ordering, Less, Equal, Greater, int_cmp, nat_cmp}
-use Rattle.std.specs.Prelude.{◌^◌, ℤ, pos, ◌+ℤ◌, ◌-ℤ◌, ◌≤ℤ◌, unsigned_abs, if◌then◌else◌}
+use Rattle.std.specs.Prelude.{ℤ, pos, ◌+ℤ◌, ◌-ℤ◌, ◌≤ℤ◌, unsigned_abs, if◌then◌else◌}
 use Rattle.std.specs.Cmp.{nat_cmp_is}
 use Rattle.std.specs.Ordering.{MatchOrdering, ordering_then}
 use Rattle.std.proofs.lemmas.Cmp.{int_ranked, ranked}
@@ -121,11 +121,6 @@ module _ (f : TileFrame) (profile : IsProfile f.profile) where
   row h i =
       let box = in_box h i in
       in_row (lowest f).y h.y f.profile.side (omega (arith, profile.greatest_side)) box.2 box.3
-
-  -- a key is below 2 ^ 32
-  pub key_small : (h : Point) → IsHere h → key_of f h < 2 ^ 32
-  unfolding key_of
-  key_small h i = omega (arith, (column h i).within, (row h i).within)
 
   -- a key gives its pixel back
   pub pixel_back : (h : Point) → IsHere h → pixel_at f (key_of f h) ≡ h

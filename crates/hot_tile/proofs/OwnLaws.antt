@@ -1,13 +1,11 @@
 -- Spots counted one by one: their keys stay in order, and no count is greater than their number.
-use Rattle.std.proofs.Common.{◌≡◌, refl, ap, sym, ◌∙◌, subst, ℕ, ◌+◌, ◌≤◌, arith, Ordering, Less, Equal, Greater, List, [], ◌∷◌, ◌++◌, length, fold, ◌<◌, ◌^◌, Option, Some, None, append_assoc, length-append, take, get_or}
+use Rattle.std.proofs.Common.{◌≡◌, refl, ap, sym, subst, ℕ, ◌+◌, ◌≤◌, arith, Ordering, Less, Equal, Greater, List, [], ◌∷◌, ◌++◌, length, fold, ◌^◌, Option, Some, None, length-append}
 use Rattle.std.specs.List.{AllByRecursion, All}
 use Rattle.std.specs.List.Sorted.{IsStrictlySortedBy}
 use Rattle.std.specs.Ordering.{nat_cmp, match_ordering}
 use Rattle.std.specs.BTreeSet.{insert_key}
 use Rattle.std.proofs.lemmas.Cmp.{nat_cmp_total}
-use Rattle.std.proofs.lemmas.List.{take_more}
 use Rattle.std.proofs.lemmas.List.Elements.{All-from_recursion}
-use Rattle.std.proofs.lemmas.List.Sums.{fold-append}
 use Rattle.grid_core.specs.declared.point.Point.{Point}
 use Rattle.grid_core.specs.Segment.{Segment}
 use Rattle.grid_core.specs.Rounding.{crossing_pixel}
@@ -121,25 +119,6 @@ module _ (f : TileFrame) where
       (omega (arith, short)) (omega (arith, short)) (own_spots f ss s)
       (small_folded 0 0 [] (end_spots f s ++ crossing_spots f ss s)
       (all_joined (end_spots f s) (crossing_spots f ss s) (all_joined (end_spot f s.p) (end_spot f s.q) p.1 q.1) rest.1) tt)
-
-  -- one crossing more
-  pub own_more : (ss : List Segment) (s : Segment) (i : ℕ) (d : Segment) → i < length ss
-      → fold counted (own_spots f (take i ss) s) (crossing_spot f s (get_or ss i d)) ≡ own_spots f (take (i + 1) ss) s
-  own_more ss s i d lt =
-      sym (fold-append counted [] (end_spots f s ++ crossing_spots f (take i ss) s) (crossing_spot f s (get_or ss i d)))
-      ∙ ap (fold counted [])
-      (append_assoc (end_spots f s) (crossing_spots f (take i ss) s) (crossing_spot f s (get_or ss i d))
-      ∙ ap (λ zs. end_spots f s ++ zs) (sym (ap (λ us. crossing_spots f us s) (take_more ss i d lt) ∙ joined (take i ss) (get_or ss i d))))
-    where
-      joined : (us : List Segment) (t : Segment) → crossing_spots f (us ++ t ∷ []) s ≡ crossing_spots f us s ++ crossing_spot f s t
-      joined [] t = nil (crossing_spot f s t)
-        where
-          nil : (zs : List Spot) → zs ++ [] ≡ zs
-          nil [] = refl
-          nil (z ∷ zs) = ap (λ us. z ∷ us) (nil zs)
-      joined (u ∷ us) t =
-          ap (λ zs. crossing_spot f s u ++ zs) (joined us t)
-          ∙ sym (append_assoc (crossing_spot f s u) (crossing_spots f us s) (crossing_spot f s t))
 
 -- what was counted is small enough to count one more
 pub own_countable : (f : TileFrame) (ss : List Segment) (s : Segment) → length ss ≤ 65536 → All (IsSmall (2 ^ 31) (2 ^ 31)) (own_spots f ss s)

@@ -11,22 +11,29 @@ use Rattle.std.proofs.lemmas.Map.Keys.{Less-from_sorted}
 use Rattle.grid_core.proofs.Comparisons.{is_less}
 use Rattle.grid_core.proofs.Filters.{none_kept, every_kept}
 
-module _ {X K : Type 0} {R : K → K → Ordering} (o : IsTotalOrder R) (key : X → K) (n : K) where
-  -- what stands before something below is below
-  pub parted_by : (xs : List X) → IsStrictlySortedBy R (map key xs) → IsPartitionedBy (λ x. is_lt (R (key x) n)) xs
-  parted_by xs s i j d le lt below = by (cases i j le)
+module _ {X K : Type 0} (R : K → K → Ordering) (key : X → K) (p : X → Bool)
+    (lesser_too : (x y : X) → R (key x) (key y) ≡ Less → p y ≡ true → p x ≡ true) where
+  -- what stands before something that passes a test passes it, where all lesser things do
+  pub parted : (xs : List X) → IsStrictlySortedBy R (map key xs) → IsPartitionedBy p xs
+  parted xs s i j d le lt passes = by (cases i j le)
     where
       cases : (i j : ℕ) → i ≤ j → (i ≡ j) ⊎ (i < j)
       cases i j le = grind arith
 
-      by : (i ≡ j) ⊎ (i < j) → is_lt (R (key (get_or xs i d)) n) ≡ true
-      by (inl e) = subst (λ k. is_lt (R (key (get_or xs k d)) n) ≡ true) (sym e) below
+      by : (i ≡ j) ⊎ (i < j) → p (get_or xs i d) ≡ true
+      by (inl e) = subst (λ k. p (get_or xs k d) ≡ true) (sym e) passes
       by (inr less) =
           let within : j < length (map key xs) = subst (λ k. j < k) (sym (length-map xs key)) lt in
           let first = Less-from_sorted R (map key xs) i j (key d) s less within in
           let step : R (key (get_or xs i d)) (key (get_or xs j d)) ≡ Less =
           (λ k. R (sym (get_or-map key xs i d (key d) (omega (arith, less, lt))) k) (sym (get_or-map key xs j d (key d) lt) k)) ∙ first in
-          ap is_lt (o.trans (key (get_or xs i d)) (key (get_or xs j d)) n step (is_less (R (key (get_or xs j d)) n) below))
+          lesser_too (get_or xs i d) (get_or xs j d) step passes
+
+-- what stands before something below is below
+pub parted_by : {X K : Type 0} {R : K → K → Ordering} (o : IsTotalOrder R) (key : X → K) (n : K) (xs : List X)
+    → IsStrictlySortedBy R (map key xs) → IsPartitionedBy (λ x. is_lt (R (key x) n)) xs
+parted_by {R} o key n =
+    parted R key (λ x. is_lt (R (key x) n)) (λ x y less below. ap is_lt (o.trans (key x) (key y) n less (is_less (R (key y) n) below)))
 
 -- the parts before and behind an index are what passes a test and what doesn't
 pub parts : {X : Type 0} (p : X → Bool) (xs : List X) (i : ℕ) → IsPartitionPoint (λ x. p x ≡ true) (λ x. p x ≡ false) xs i

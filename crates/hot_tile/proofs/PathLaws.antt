@@ -1,7 +1,7 @@
 -- The passes of the segments between two indices, one segment more; rows that stay in order, and rows
 -- that stay as they are.
-use Rattle.std.proofs.Common.{◌≡◌, refl, ap, sym, ◌∙◌, ℕ, ◌+◌, ◌-◌, ◌<◌, ◌≤◌, arith, true, List, [], ◌∷◌, ◌++◌, map, length, get_or, take, drop, fold, append_assoc}
-use Rattle.std.specs.List.{filter, AllByRecursion}
+use Rattle.std.proofs.Common.{◌≡◌, ap, sym, ◌∙◌, ℕ, ◌+◌, ◌-◌, ◌<◌, ◌≤◌, arith, List, [], ◌∷◌, ◌++◌, map, length, get_or, take, drop, fold, append_assoc}
+use Rattle.std.specs.List.{filter}
 use Rattle.std.specs.List.Sorted.{IsStrictlySortedBy}
 use Rattle.std.specs.Ordering.{nat_cmp}
 use Rattle.std.specs.BTreeSet.{insert_key}
@@ -10,12 +10,12 @@ use Rattle.std.proofs.lemmas.Cmp.{nat_cmp_total}
 use Rattle.std.proofs.lemmas.List.{append-nil, map-append, map_more, get_or-drop, length-drop, drop-drop, take_all, take-append-drop}
 use Rattle.std.proofs.lemmas.List.Elements.{filter-append}
 use Rattle.grid_core.specs.Segment.{Segment}
-use Rattle.grid_core.proofs.Filters.{every_kept}
 use Rattle.grid_core.proofs.RisingMembers.{sorted_inserted}
 use Rattle.hot_tile.specs.Frame.{TileFrame, step_of}
 use Rattle.hot_tile.specs.Steps.{meets_key, grown_row, thinned_row}
 use Rattle.hot_tile.specs.Tile.{TileContent, frame_of, path_in}
 use Rattle.hot_tile.specs.Paths.{grown_path, thinned_path}
+use Rattle.hot_tile.proofs.CoolLaws.{none_gone}
 
 -- a row with steps put in stays in order
 pub folded_rises : (xs ys : List ℕ) → IsStrictlySortedBy nat_cmp xs → IsStrictlySortedBy nat_cmp (fold (insert_key nat_cmp) xs ys)
@@ -136,13 +136,9 @@ pub grown_stays : (t : TileContent) (fresh : List ℕ) (u : Segment) (n : ℕ) �
 grown_stays t fresh u n e le =
     sym (ap (λ ms. fold (insert_key nat_cmp) (path_in t u) (map (step_of u) ms)) (none_met (frame_of t) u fresh n e le))
 
-all_stay : (ks : List ℕ) → AllByRecursion (λ (k : ℕ). true ≡ true) ks
-all_stay [] = tt
-all_stay (k ∷ ks) = (refl, all_stay ks)
-
 -- and where none is met that is cold
 pub thinned_stays : (t : TileContent) (cold : List ℕ) (u : Segment) (n : ℕ) → filter (meets_key (frame_of t) u) (take n cold) ≡ []
     → length cold ≤ n → path_in t u ≡ thinned_path t cold u
 thinned_stays t cold u n e le =
     sym (ap (λ ms. thinned_row (fold (insert_key nat_cmp) [] (map (step_of u) ms)) (path_in t u)) (none_met (frame_of t) u cold n e le)
-    ∙ every_kept (λ k. true) (path_in t u) (all_stay (path_in t u)))
+    ∙ none_gone (path_in t u))

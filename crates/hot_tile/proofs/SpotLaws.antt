@@ -95,24 +95,6 @@ module _ {X : Type 0} (f : X → ℕ) where
       above_first (get_or xs i d) (drop (i + 1) xs)
       (subst (λ ys. IsStrictlySortedBy nat_cmp (map f ys)) (drop_more xs i d lt) (in_order_from xs i s))
 
-  -- what stands before an index is below what stands there
-  pub below_at : (xs : List X) (i : ℕ) (d : X) → i < length xs → IsStrictlySortedBy nat_cmp (map f xs)
-      → AllByRecursion (λ y. f y < f (get_or xs i d)) (take i xs)
-  unfolding IsStrictlySortedBy
-  below_at [] i d lt s = absurd (omega (arith, lt))
-  below_at (x ∷ xs) zero d lt s = tt
-  below_at (x ∷ xs) (suc i) d lt s = (above_get xs i (omega (arith, lt)) (above_first x xs s), below_at xs i d (omega (arith, lt)) s.1)
-    where
-      above_get : (ys : List X) (i : ℕ) → i < length ys → AllByRecursion (λ y. f x < f y) ys → f x < f (get_or ys i d)
-      above_get [] i lt h = absurd (omega (arith, lt))
-      above_get (y ∷ ys) zero lt h = h.0
-      above_get (y ∷ ys) (suc i) lt h = above_get ys i (omega (arith, lt)) h.1
-
-  -- what is below a number is below a greater one
-  pub below_more : (k m : ℕ) (xs : List X) → k ≤ m → AllByRecursion (λ x. f x < k) xs → AllByRecursion (λ x. f x < m) xs
-  below_more k m [] le h = tt
-  below_more k m (x ∷ xs) le h = (omega (arith, le, h.0), below_more k m xs le h.1)
-
   pub above_more : (k m : ℕ) (xs : List X) → m ≤ k → AllByRecursion (λ x. k < f x) xs → AllByRecursion (λ x. m < f x) xs
   above_more k m [] le h = tt
   above_more k m (x ∷ xs) le h = (omega (arith, le, h.0), above_more k m xs le h.1)
@@ -213,6 +195,10 @@ fresh_but_run k [] xs ys h a = refl
 fresh_but_run k (x ∷ run) xs ys h a =
     fresh_but x (run ++ xs) ys (below_each x.key k ys h.0 a) ∙ fresh_but_run k run xs ys h.1 a
 
+-- a run and what stands behind it
+pub run_joined : {X : Type 0} (i n : ℕ) (xs : List X) → take n (drop i xs) ++ drop (i + n) xs ≡ drop i xs
+run_joined i n xs = ap (λ ys. take n (drop i xs) ++ ys) (sym (drop-drop n i xs)) ∙ take-append-drop n (drop i xs)
+
 -- the first i and j spots have been merged into `out`, with the new keys among them
 pub record IsMerging (olds owns : List Spot) (i j : ℕ) (out : List Spot) (found : List ℕ) : Type 0 where
   pub spots : out ++ merged (drop i olds) (drop j owns) ≡ merged olds owns
@@ -220,28 +206,12 @@ pub record IsMerging (olds owns : List Spot) (i j : ℕ) (out : List Spot) (foun
 
 module _ {olds owns : List Spot} {i j : ℕ} {out : List Spot} {fresh : List ℕ} (m : IsMerging olds owns i j out fresh)
     (d : Spot) where
-  pub takes_old : i < length olds → AllByRecursion (λ y. (get_or olds i d).key < y.key) (drop j owns)
-      → IsMerging olds owns (i + 1) j (out ++ get_or olds i d ∷ []) fresh
-  takes_old lt above =
-      record {
-        spots =
-            append_assoc out (get_or olds i d ∷ []) (merged (drop (i + 1) olds) (drop j owns))
-            ∙ ap (λ zs. out ++ zs)
-            (sym (ap (λ xs. merged xs (drop j owns)) (drop_more olds i d lt) ∙ old_first (get_or olds i d) (drop (i + 1) olds) (drop j owns) above))
-            ∙ m.spots;
-        fresh =
-            ap (λ zs. fresh ++ zs)
-            (sym (ap (λ xs. fresh_keys xs (drop j owns)) (drop_more olds i d lt) ∙ fresh_but (get_or olds i d) (drop (i + 1) olds) (drop j owns) above))
-            ∙ m.fresh;
-      }
-
   pub takes_run : (n : ℕ) → j < length owns → AllByRecursion (λ x. x.key < (get_or owns j d).key) (take n (drop i olds))
       → AllByRecursion (λ z. (get_or owns j d).key < z.key) (drop (j + 1) owns)
       → IsMerging olds owns (i + n) j (out ++ take n (drop i olds)) fresh
   takes_run n lt below after =
       let run = take n (drop i olds) in
-      let parted : run ++ drop (i + n) olds ≡ drop i olds =
-      ap (λ xs. run ++ xs) (sym (drop-drop n i olds)) ∙ take-append-drop n (drop i olds) in
+      let joined = run_joined i n olds in
       let above : AllByRecursion (λ y. (get_or owns j d).key ≤ y.key) (drop j owns) =
       subst (AllByRecursion (λ y. (get_or owns j d).key ≤ y.key)) (sym (drop_more owns j d lt))
       (at_least (get_or owns j d).key (get_or owns j d) (drop (j + 1) owns) refl after) in
@@ -250,12 +220,12 @@ module _ {olds owns : List Spot} {i j : ℕ} {out : List Spot} {fresh : List ℕ
             append_assoc out run (merged (drop (i + n) olds) (drop j owns))
             ∙ ap (λ zs. out ++ zs)
             (sym (run_first (get_or owns j d).key run (drop (i + n) olds) (drop j owns) below above)
-            ∙ ap (λ xs. merged xs (drop j owns)) parted)
+            ∙ ap (λ xs. merged xs (drop j owns)) joined)
             ∙ m.spots;
         fresh =
             ap (λ zs. fresh ++ zs)
             (sym (fresh_but_run (get_or owns j d).key run (drop (i + n) olds) (drop j owns) below above)
-            ∙ ap (λ xs. fresh_keys xs (drop j owns)) parted)
+            ∙ ap (λ xs. fresh_keys xs (drop j owns)) joined)
             ∙ m.fresh;
       }
 

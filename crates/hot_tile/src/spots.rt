@@ -20,7 +20,7 @@ pub(crate) struct Spot {
     pub(crate) crossings: u32,
 }
 
-/// Both counts of each.
+/// Both counts of each, by the key of the first, which both have.
 #[inline(always)]
 fn both(a: Spot, b: Spot) -> Spot
     requires first { IsSmall (2 ^ 31) (2 ^ 31) a }
@@ -143,7 +143,7 @@ fn push_left(left: Spot, spots: &mut Vec<Spot>, cold: &mut Vec<u32>) -> Result<(
     Ok(())
 }
 
-/// The first less the counts of the second.
+/// The first less the counts of the second, which are none greater where the second is counted in it.
 #[inline(always)]
 fn less(a: Spot, b: Spot) -> Spot
     ensures { result ≡ record {

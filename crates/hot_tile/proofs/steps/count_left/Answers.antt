@@ -17,7 +17,7 @@ divided : (c : After-partition_point)
     (λ (y : Spot). int_lt (pos (y.key / 65536)) c.column_of-column.result ≡ false) c.args.spots.now c.partition_point.result
 divided c =
     IsPartitionPoint-from_clause (λ (y : Spot). int_lt (pos (y.key / 65536)) c.column_of-column.result) c.args.spots.now c.partition_point.result
-    c.partition_point.ensures.partitioned (columns_parted c.column_of-column.result c.args.spots.now c.requires.rising)
+    c.partition_point.ensures.partitioned (columns_parted (λ (y : Spot). y.key) c.column_of-column.result c.args.spots.now c.requires.rising)
     (λ a r f' k. search rules)
 
 turned : (b : Bool) → not b ≡ true → b ≡ false

@@ -1,6 +1,6 @@
-use Rattle.std.proofs.Common.{rules, w64, SFits, to_z-of_z, ◌∙◌, sym, ap, subst, ◌-◌, List, length, take, drop}
+use Rattle.std.proofs.Common.{rules, w64, SFits, to_z-of_z, sym, subst, ◌-◌, List, length, take, drop}
 use Rattle.std.specs.Prelude.{pos, ◌<ℤ◌, ◌≤ℤ◌, ◌+ℤ◌}
-use Rattle.std.specs.List.{filter, AllByRecursion}
+use Rattle.std.specs.List.{AllByRecursion}
 use Rattle.std.specs.List.Sorted.{IsStrictlySortedBy}
 use Rattle.std.specs.Ordering.{nat_cmp}
 use Rattle.std.proofs.lemmas.List.Elements.{recursion_from_All}
@@ -8,9 +8,8 @@ use Rattle.grid_core.specs.declared.point.Point.{Point}
 use Rattle.hot_tile.specs.declared.spots.Spot.{Spot}
 use Rattle.hot_tile.specs.Frame.{pixel_at}
 use Rattle.hot_tile.specs.Spots.{keys}
-use Rattle.hot_tile.specs.Steps.{meets_key}
 use Rattle.hot_tile.proofs.SpotLaws.{in_order_from, left_is}
-use Rattle.hot_tile.proofs.ColumnLaws.{none_left, none_right, but_front, but_back}
+use Rattle.hot_tile.proofs.ColumnLaws.{met_in_columns}
 use Rattle.hot_tile.proofs.steps.in_columns.Goals as goal
 
 pub count_left-requires-2-clause-rising : goal.count_left-requires-2-clause-rising
@@ -34,7 +33,5 @@ returns c =
     let right : AllByRecursion (λ (y : Spot). (u.q.x +ℤ pos 1) ≤ℤ (pixel_at f y.key).x) (drop c.count_left-2.result rest) =
     subst (λ (q : Point). AllByRecursion (λ (y : Spot). (q.x +ℤ pos 1) ≤ℤ (pixel_at f y.key).x) (drop c.count_left-2.result rest)) c.q.ensures.value
     (recursion_from_All (λ (y : Spot). (c.q.result.x +ℤ pos 1) ≤ℤ (pixel_at f y.key).x) (drop c.count_left-2.result rest) last) in
-    but_back (meets_key f u) c.count_left-2.result rest (none_right f u c.p.ensures.kept.ordered (drop c.count_left-2.result rest) right)
-    ∙ ap (λ ys. filter (meets_key f u) (keys ys)) (left_is c.args.spots.now c.count_left.result)
-    ∙ but_front (meets_key f u) c.count_left.result c.args.spots.now
-    (none_left f u c.p.ensures.kept.ordered (take c.count_left.result c.args.spots.now) left)
+    met_in_columns (λ (y : Spot). y.key) f u c.p.ensures.kept.ordered c.count_left.result c.count_left-2.result c.args.spots.now rest
+    (left_is c.args.spots.now c.count_left.result) left right
