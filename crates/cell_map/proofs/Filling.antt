@@ -19,7 +19,7 @@ use Rattle.grid_core.proofs.Filters.{filter_joined}
 use Rattle.grid_core.proofs.Signed.{same_lt_le, from_le_true, from_lt_true}
 use Rattle.planar_law.specs.PlanarEdges.{Graph}
 use Rattle.cell_map.specs.Strips.{Strips, strip_in, empty_strip, with_vertex, Changes, ChangesWhere}
-use Rattle.cell_map.proofs.StripOfPoint.{and_left, and_right}
+use Rattle.edge_search.proofs.Ranges.{and_left, and_right}
 use Rattle.cell_map.specs.Strips.{strip_at, lies_in_strip}
 
 -- the strip that a query finds is the one of that number

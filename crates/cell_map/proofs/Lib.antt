@@ -4,8 +4,3 @@ pub mod Filling
 pub mod Exchanging
 pub mod FirstNames
 pub mod Refreshing
-pub mod EdgeOrder
-pub mod EdgeRanks
-pub mod Least
-pub mod UpwardsOrder
-pub mod Enough

@@ -18,6 +18,7 @@ use Rattle.grid_core.specs.Places.{strip_of, spans, lies_on, query_point}
 use Rattle.grid_core.specs.Vector.{point_eq}
 use Rattle.grid_core.proofs.Order.{point_less}
 use Rattle.grid_core.proofs.Comparisons.{point_decides}
+use Rattle.edge_search.proofs.Ranges.{and_left, and_right, between_low, between_high}
 use Rattle.cell_map.specs.Strips.{strip_at, meets_strip, lies_in_strip, strip_of_graph}
 use Rattle.std.proofs.lemmas.Bool.Decides.{Decides-int_eq, not_from_Decides}
 use Rattle.std.proofs.lemmas.List.Elements.{recursion_from_All}
@@ -53,12 +54,6 @@ left_of_wall k x h =
 right_of_wall : (k x : ℤ) → k <ℤ strip_at x → (pos 256 *ℤ (k +ℤ pos 1)) ≤ℤ x
 right_of_wall k x h = above_floor_ge x (pos 256) (k +ℤ pos 1) (omega (arith, ints)) (omega (arith, ints, h))
 
-pub between_low : (a b z : ℤ) → a ≤ℤ b → int_le (int_min a b) z ≡ true → a ≤ℤ z
-between_low a b z h e = omega (arith, ints, from_le_true (int_min a b) z e, int_min_is a b)
-
-pub between_high : (a b z : ℤ) → a ≤ℤ b → int_le z (int_max a b) ≡ true → z ≤ℤ b
-between_high a b z h e = omega (arith, ints, from_le_true z (int_max a b) e, int_max_is a b)
-
 -- ---- edges and vertices
 
 -- q's strip is one of those from the lesser end's to the greater end's
@@ -66,14 +61,6 @@ meets_between : (q : Point) (e : EdgeEnds) → (pos 256 *ℤ e.a.x) ≤ℤ q.x �
     → meets_strip (strip_of 256 q) e ≡ true
 meets_between q e low high =
     ap₂ (λ a b. a && b) (le_true _ _ (column_left q e.a.x low)) (le_true _ _ (column_right q e.b.x high))
-
-pub and_left : (a b : Bool) → (a && b) ≡ true → a ≡ true
-and_left true b h = refl
-and_left false b h = h
-
-pub and_right : (a b : Bool) → (a && b) ≡ true → b ≡ true
-and_right true b h = h
-and_right false b h = absurd (true≢false (sym h))
 
 -- an edge whose columns have q's meets q's strip
 spanning_meets : (q : Point) (e : EdgeEnds) → spans q e ≡ true → meets_strip (strip_of 256 q) e ≡ true

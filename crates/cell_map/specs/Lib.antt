@@ -1,5 +1,4 @@
 pub mod Strips
+pub mod Arranged
 pub mod Found
 pub mod Exchange
-pub mod EdgeOrder
-pub mod Near

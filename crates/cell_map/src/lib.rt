@@ -22,8 +22,10 @@
 
 #![tactic(auto, using(grid_core::proofs::Signed::signed))]
 
+mod arranged;
 mod cell;
 mod cell_map;
+mod columns;
 mod exchange;
 mod fill;
 mod found;
@@ -32,10 +34,7 @@ mod strip;
 
 pub use cell_map::CellMap;
 pub use found::Found;
-pub use laws::{
-    above_is_above_those_before, enough_tell_the_place, lower_inside_comes_before,
-    lower_stays_lower, one_edge_has, refreshed_are_built,
-};
+pub use laws::refreshed_are_built;
 
 #[cfg(test)]
 mod tests;

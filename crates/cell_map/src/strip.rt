@@ -164,7 +164,7 @@ pub(crate) fn find_among(vertices: &[Point], edges: &[Edge], at: Point) -> Found
 }
 
 /// What lies nearest to a query point among vertices and edges.
-fn scan(vertices: &[Point], edges: &[Edge], at: Point) -> Nearest
+pub(crate) fn scan(vertices: &[Point], edges: &[Edge], at: Point) -> Nearest
     requires at_within { IsWithin (2 ^ 40) at }
     requires vertices_within { All (IsWithin (2 ^ 30)) vertices.now }
     requires edges_within { All (IsEdgeWithin (2 ^ 30)) edges.now }

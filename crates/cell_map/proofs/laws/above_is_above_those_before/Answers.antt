@@ -1,5 +1,0 @@
-use Rattle.cell_map.proofs.EdgeOrder.{above_those_before}
-use Rattle.cell_map.proofs.laws.above_is_above_those_before.Goals as goal
-
-pub returns : goal.returns
-returns c = above_those_before c.edges-edges.ensures.kept.planar

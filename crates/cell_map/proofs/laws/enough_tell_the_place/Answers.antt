@@ -1,5 +1,0 @@
-use Rattle.cell_map.proofs.Enough.{enough_tell_the_place}
-use Rattle.cell_map.proofs.laws.enough_tell_the_place.Goals as goal
-
-pub returns : goal.returns
-returns c = enough_tell_the_place c.edges-edges.ensures.kept

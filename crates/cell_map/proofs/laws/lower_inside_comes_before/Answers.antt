@@ -1,5 +1,0 @@
-use Rattle.cell_map.proofs.EdgeRanks.{lower_inside}
-use Rattle.cell_map.proofs.laws.lower_inside_comes_before.Goals as goal
-
-pub returns : goal.returns
-returns c = lower_inside c.edges-edges.ensures.kept.planar

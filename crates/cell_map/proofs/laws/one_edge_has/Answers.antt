@@ -1,5 +1,0 @@
-use Rattle.cell_map.proofs.EdgeRanks.{one_edge_has}
-use Rattle.cell_map.proofs.laws.one_edge_has.Goals as goal
-
-pub returns : goal.returns
-returns c = one_edge_has c.edges-edges.ensures.kept.planar c.edges-edges.ensures.kept.ordered

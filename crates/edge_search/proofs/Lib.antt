@@ -1,0 +1,15 @@
+pub mod Ranges
+pub mod EdgeOrder
+pub mod EdgeRanks
+pub mod Least
+pub mod UpwardsOrder
+pub mod Enough
+pub mod Nodes
+pub mod Searching
+pub mod VerticalEdges
+pub mod Climbing
+pub mod FoundPlace
+pub mod Rounding
+pub mod Ranks
+pub mod Cutting
+pub mod SortedPieces

@@ -1,0 +1,9 @@
+pub mod Candidates
+pub mod EdgeOrder
+pub mod Found
+pub mod Near
+pub mod Nodes
+pub mod Pieces
+pub mod Search
+pub mod Ranks
+pub mod Cuts
