@@ -4,3 +4,9 @@ pub mod Filling
 pub mod Exchanging
 pub mod FirstNames
 pub mod Refreshing
+pub mod Searching
+pub mod InTurn
+pub mod Arranging
+pub mod ColumnOrder
+pub mod CellBounds
+pub mod VertexInOrder

@@ -85,7 +85,7 @@ having_meets q e ordered h =
     meets_between q e (between_low _ _ q.x order (and_left _ _ columns)) (between_high _ _ q.x order (and_right _ _ columns))
 
 -- a vertex at q lies in q's strip
-vertex_lies : (q h : Point) → point_eq (query_point h) q ≡ true → lies_in_strip (strip_of 256 q) h ≡ true
+pub vertex_lies : (q h : Point) → point_eq (query_point h) q ≡ true → lies_in_strip (strip_of 256 q) h ≡ true
 vertex_lies q h e =
     let same : query_point h ≡ q = (point_decides (query_point h) q).0 e in
     let column : pos 256 *ℤ h.x ≡ q.x = ap (λ (p : Point). p.x) same in

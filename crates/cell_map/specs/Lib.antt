@@ -2,3 +2,4 @@ pub mod Strips
 pub mod Arranged
 pub mod Found
 pub mod Exchange
+pub mod Columns

@@ -1,23 +1,25 @@
 //! A strip in which places are searched for by halves.
 
-ghost use Rattle.std.specs.Prelude.{◌≡◌, ◌^◌, Some, None};
+ghost use Rattle.std.specs.Prelude.{◌≡◌, ◌^◌, ℤ, Some, None, IfOk, OnOk};
 ghost use Rattle.grid_core.specs.Vector.{IsWithin};
 ghost use Rattle.grid_core.specs.Places.{strip_of};
 ghost use Rattle.place_test.specs.Nearest.{vertex_among};
-ghost use Rattle.cell_map.specs.Arranged.{IsArranged};
+ghost use Rattle.cell_map.specs.Strips.{strip_in, HaveSame, Changes};
+ghost use Rattle.cell_map.specs.Arranged.{IsSearchable, IsArranged};
 ghost use Rattle.cell_map.specs.Found.{found_among};
 
 use crate::Found;
 use crate::cell::strip_of;
 use crate::columns::{cell_in_order, vertex_at};
-use crate::strip::find_among;
+use crate::strip::{Strip, find_among};
 use edge_search::EdgeSearch;
 use grid_core::{Edge, Memory, Place, Point};
 use std::alloc::Global;
+use std::collections::BTreeMap;
 use std::marker::Model;
 
-/// The edges that meet a strip, arranged for a search, and the vertices in it, in order. Each end of an edge in
-/// the strip is one of the vertices. No coordinate is greater than 2^30 in size.
+/// A complete strip: a search among the edges that meet it, whole, and the vertices in it, in order. Each
+/// end of an edge in the strip is one of the vertices. No coordinate is greater than 2^30 in size.
 #[derive(Drop)]
 pub(crate) struct ArrangedStrip {
     /// `None` where no edge meets the strip.
@@ -102,8 +104,8 @@ impl ArrangedStrip {
     }
 }
 
-/// Where a query point that is at no vertex lies, with its cell. By a scan, if the point isn't in the search's
-/// strip.
+/// Where a query point that is at no vertex lies, with its cell. By a scan where the point isn't in the
+/// search's strip, as no query of a map is.
 fn find_by(search: &EdgeSearch, vertices: &[Point], at: Point) -> Found
     requires at_within { IsWithin (2 ^ 40) at }
     requires arranged { IsArranged (2 ^ 30) (Some search.now) vertices.now }
@@ -132,4 +134,31 @@ fn search_place(search: &EdgeSearch, vertices: &[Point], at: Point) -> Found
             Found::Inside(cell_in_order(vertices, at, above, below))
         }
     }
+}
+
+/// The same strips, each arranged for a search.
+pub(crate) fn arrange_all(
+    alloc: Global,
+    filled: BTreeMap<i64, Strip>,
+) -> Result<BTreeMap<i64, ArrangedStrip>, Memory>
+    requires { (k : ℤ) → IsSearchable k (strip_in filled.entries k) }
+    ensures { IfOk result (λ m. HaveSame filled.entries m.entries) }
+{
+    let mut strips = BTreeMap::new(alloc);
+    for (k, strip) in filled {
+        put(&mut strips, k, strip.arrange(alloc, k)?)?;
+    }
+    Ok(strips)
+}
+
+/// Puts a strip under its number.
+fn put(
+    strips: &mut BTreeMap<i64, ArrangedStrip>,
+    k: i64,
+    strip: ArrangedStrip,
+) -> Result<(), Memory>
+    ensures { OnOk result (Changes k (λ s. strip) strips.old.entries strips.new.entries) }
+{
+    strips.insert(k, strip)?;
+    Ok(())
 }

@@ -75,7 +75,7 @@ pub(crate) fn strip_at(x: i64) -> i64
 
 /// `a / m`, rounded down.
 #[inline(always)]
-fn floor(a: i64, m: i64) -> i64
+pub(crate) fn floor(a: i64, m: i64) -> i64
     requires many { unsigned_abs a ≤ 2 ^ 40 }
     requires positive { pos 0 <ℤ m }
     ensures { result ≡ int_div_euclid a m }
@@ -85,7 +85,7 @@ fn floor(a: i64, m: i64) -> i64
 
 /// The column of a strip's wall on the left.
 #[inline(always)]
-fn left_wall(number: i64) -> i64
+pub(crate) fn left_wall(number: i64) -> i64
     requires { unsigned_abs number ≤ 2 ^ 25 }
     ensures { result ≡ pos 256 *ℤ number }
 {
@@ -94,7 +94,7 @@ fn left_wall(number: i64) -> i64
 
 /// The column of a strip's wall on the right.
 #[inline(always)]
-fn right_wall(number: i64) -> i64
+pub(crate) fn right_wall(number: i64) -> i64
     requires { unsigned_abs number ≤ 2 ^ 25 }
     ensures { result ≡ pos 256 *ℤ (number +ℤ pos 1) }
 {

@@ -1,10 +1,12 @@
 //! The strips of a graph by their numbers.
 
 use crate::Found;
+use crate::arranged::{ArrangedStrip, arrange_all};
 use crate::cell::strip_of;
 use crate::exchange::{exchange, keep_all, strips_of};
 use crate::fill::strips;
-use crate::strip::{Strip, find_among};
+use crate::laws::strips_are_searchable;
+use crate::strip::find_among;
 use grid_core::{Memory, Point};
 use planar_law::PlanarEdges;
 use std::alloc::Global;
@@ -15,7 +17,7 @@ use std::marker::Model;
 #[derive(Drop)]
 pub struct CellMap {
     alloc: Global,
-    strips: BTreeMap<i64, Strip>,
+    strips: BTreeMap<i64, ArrangedStrip>,
 }
 
 impl Model for CellMap {
@@ -40,7 +42,9 @@ impl CellMap {
     pub fn build(alloc: Global, planar: &PlanarEdges) -> Result<CellMap, Memory>
         ensures { IfOk result (AreStripsOf planar.now) }
     {
-        let strips = strips(alloc, planar.vertices(), planar.edges())?;
+        strips_are_searchable(planar);
+        let filled = strips(alloc, planar.vertices(), planar.edges())?;
+        let strips = arrange_all(alloc, filled)?;
         Ok(CellMap { alloc, strips })
     }
 
@@ -50,6 +54,7 @@ impl CellMap {
         ensures refreshed { OnOk result (AreRefreshed planar.now strips.now self.old self.new) }
         ensures same { OnErr result (HaveSame self.old self.new) }
     {
+        strips_are_searchable(planar);
         let made = strips_of(self.alloc, strips, planar.vertices(), planar.edges())?;
         keep_all(self.alloc, &mut self.strips, strips)?;
         exchange(&mut self.strips, made);

@@ -17,8 +17,11 @@
 //! ```
 //!
 //! Where a point lies follows from its strip alone: an edge that has the point, or its column, meets the
-//! strip, and a vertex outside is no nearer than the wall on its side. Cells are not kept: a query
-//! compares the point with all that lies in its strip.
+//! strip, and a vertex outside is no nearer than the wall on its side. A strip is filled edge by edge,
+//! and vertex by vertex. Once it is complete it is arranged: its edges go into a search by halves, which
+//! finds those nearest to a point, and its vertices stand in order, by x and then y. So a query doesn't
+//! come to all that lies in its strip. Cells are not kept: each is found from its two edges and the
+//! vertices.
 
 #![tactic(auto, using(grid_core::proofs::Signed::signed))]
 

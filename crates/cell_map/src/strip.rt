@@ -1,4 +1,4 @@
-//! What lies in one strip, and the scan of it for a query point.
+//! What lies in one strip, as it is filled, and the plain scan for a query point.
 
 ghost use Rattle.std.specs.Prelude.{◌≡◌, ◌^◌, All, OnOk};
 ghost use Rattle.grid_core.specs.Vector.{IsWithin};
@@ -8,14 +8,15 @@ ghost use Rattle.cell_map.specs.Strips.{meets_strip, lies_in_strip};
 ghost use Rattle.cell_map.specs.Found.{found_among};
 
 use crate::Found;
+use crate::arranged::ArrangedStrip;
 use crate::cell::{cell, strip_at};
 use grid_core::{Edge, Memory, Place, Point};
 use place_test::Nearest;
 use std::alloc::Global;
 use std::marker::Model;
 
-/// The edges that meet a strip, whole, and the vertices in it. No coordinate is greater than 2^30 in
-/// size.
+/// The edges that meet a strip, whole, and the vertices in it, as far as it is filled. No coordinate is
+/// greater than 2^30 in size.
 #[derive(Drop)]
 pub(crate) struct Strip {
     edges: Vec<Edge>,
@@ -41,7 +42,7 @@ impl Strip {
     ghost use Rattle.place_test.specs.Reach.{IsEdgeWithin};
     ghost use Rattle.cell_map.specs.Strips.{empty_strip, with_edge, with_vertex};
     ghost use Rattle.cell_map.specs.Strips.{meets_strip, lies_in_strip, strip_of_graph};
-    ghost use Rattle.cell_map.specs.Found.{found_among};
+    ghost use Rattle.cell_map.specs.Arranged.{IsSearchable};
 
     /// A strip in which nothing lies. Takes no memory.
     pub(crate) fn empty(alloc: Global) -> Strip
@@ -119,12 +120,13 @@ impl Strip {
         Ok(())
     }
 
-    /// Where a query point lies among what lies in the strip, with its cell.
-    pub(crate) fn find(&self, at: Point) -> Found
-        requires { IsWithin (2 ^ 40) at }
-        ensures { result ≡ found_among self.now.vertices self.now.edges at }
+    /// Strip `k`, once it is complete, arranged for a search.
+    pub(crate) fn arrange(self, alloc: Global, k: i64) -> Result<ArrangedStrip, Memory>
+        requires { IsSearchable k self }
+        ensures { IfOk result (λ s. s ≡ self) }
     {
-        find_among(self.vertices.as_slice(), self.edges.as_slice(), at)
+        let Strip { edges, vertices } = self;
+        ArrangedStrip::of(alloc, k, edges, vertices)
     }
 }
 
@@ -164,7 +166,7 @@ pub(crate) fn find_among(vertices: &[Point], edges: &[Edge], at: Point) -> Found
 }
 
 /// What lies nearest to a query point among vertices and edges.
-pub(crate) fn scan(vertices: &[Point], edges: &[Edge], at: Point) -> Nearest
+fn scan(vertices: &[Point], edges: &[Edge], at: Point) -> Nearest
     requires at_within { IsWithin (2 ^ 40) at }
     requires vertices_within { All (IsWithin (2 ^ 30)) vertices.now }
     requires edges_within { All (IsEdgeWithin (2 ^ 30)) edges.now }

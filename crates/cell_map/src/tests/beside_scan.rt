@@ -18,6 +18,14 @@ use std::test::Fail;
 /// How many columns and rows a grid of query points has.
 const COUNT: i64 = 73;
 
+/// Long segments that cross in three strips.
+const LONG: [[i64; 4]; 4] = [
+    [-200, -3, 520, 9],
+    [-200, 16, 520, -16],
+    [0, -8, 255, -9],
+    [256, 17, 257, -17],
+];
+
 /// The rounding of these segments.
 fn drawn(alloc: Global, segments: &[Ur]) -> Result<Rounding, Memory>
     requires rising { IsStrictlySortedBy label_cmp (names segments.now) }
@@ -142,11 +150,46 @@ fn places_as_by_the_scan(rt: HostRuntime) -> Result<(), Fail> {
             [[0, 0, 256, 0], [256, 0, 300, 9], [10, 20, 250, 20], UNUSED],
             [63232, -256, 64, 80],
         ),
+        (
+            "many vertices in one column",
+            4,
+            [[0, 0, 9, 1], [0, 6, 9, -5], [0, -4, 9, 9], [4, -9, 5, 12]],
+            [704, -2560, 16, 72],
+        ),
+        (
+            "vertical edges in one column",
+            4,
+            [
+                [10, -20, 10, 20],
+                [10, 30, 10, 40],
+                [0, 0, 20, 1],
+                [0, 5, 20, -6],
+            ],
+            [1984, -7168, 16, 256],
+        ),
+        (
+            "long edges over three strips",
+            4,
+            LONG,
+            [-51200, -4608, 2560, 128],
+        ),
     ] {
         let picture = pictured(&rt, rt.alloc(), count, ends)?;
         let planar = rounded(&rt, rt.alloc(), count, ends)?;
         let cells = CellMap::build(rt.alloc(), &planar)?;
         assert_eq!(rt; differences(&rt, &picture, &cells, grid), 0, "{name}");
     }
+    Ok(())
+}
+
+#[test]
+fn refreshed_strips_as_by_the_scan(rt: HostRuntime) -> Result<(), Fail> {
+    let picture = pictured(&rt, rt.alloc(), 4, LONG)?;
+    let nothing = rounded(&rt, rt.alloc(), 0, LONG)?;
+    let planar = rounded(&rt, rt.alloc(), 4, LONG)?;
+    let mut cells = CellMap::build(rt.alloc(), &nothing)?;
+    cells.refresh(&[2, -1, 0, 1], &planar)?;
+    let grid = [-51200, -4608, 2560, 128];
+    assert_eq!(rt; differences(&rt, &picture, &cells, grid), 0);
     Ok(())
 }

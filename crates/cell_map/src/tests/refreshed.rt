@@ -84,3 +84,14 @@ fn strips_not_given_stay(rt: HostRuntime) -> Result<(), Fail> {
     );
     Ok(())
 }
+
+#[test]
+fn strips_that_no_edge_can_meet(rt: HostRuntime) -> Result<(), Fail> {
+    let before = rounded(&rt, rt.alloc(), 3, EDITED)?;
+    let old = CellMap::build(rt.alloc(), &before)?;
+    let mut cells = CellMap::build(rt.alloc(), &before)?;
+    cells.refresh(&[i64::MIN, 1 << 26, i64::MAX], &before)?;
+    let all = [-4, -3, -2, -1, 0, 1, 2, 3, 4];
+    assert_eq!(rt; differences(&rt, &cells, &old, &all), 0, "all strips");
+    Ok(())
+}
