@@ -1,4 +1,4 @@
-//! The same strips, the same scan and the same drawing as `crates/bench_places`, in plain Rust; it takes
+//! The same strips, the same searches and the same drawing as `crates/bench_places`, in plain Rust; it takes
 //! its words. The rounding is made plainly: it isn't what is timed.
 
 use std::cmp::Ordering;
@@ -172,10 +172,78 @@ impl Nearest {
 
 // The strips.
 
+/// An edge over one node of the tree over its strip's columns.
+#[derive(Clone, Copy)]
+struct Piece {
+    node: u16,
+    edge: Edge,
+}
+
 #[derive(Default)]
 struct Strip {
     edges: Vec<Edge>,
     vertices: Vec<Point>,
+    /// In order of lower end.
+    verticals: Vec<Edge>,
+    /// By node, and those of one node upwards.
+    pieces: Vec<Piece>,
+}
+
+impl Strip {
+    /// Makes what places are searched in, once all edges that meet strip `number` are there, in order.
+    fn arrange(&mut self, number: i64) {
+        let mut ranked = Vec::new();
+        for e in &self.edges {
+            if e.a.x == e.b.x {
+                self.verticals.push(*e);
+            } else {
+                let first = (e.a.x - 256 * number).max(0) as u16;
+                let end = (e.b.x - 256 * number).min(256) as u16;
+                for node in nodes(first, end) {
+                    ranked.push((Piece { node, edge: *e }, rank(256 * number + left(node), e)));
+                }
+            }
+        }
+        ranked.sort_unstable_by_key(|(piece, rank)| (piece.node, *rank));
+        self.pieces = ranked.iter().map(|(piece, _)| *piece).collect();
+    }
+}
+
+/// The nodes that together have the columns from `first` up to, and without, `end`. Node 1 has all 256, node n those of nodes
+/// 2 n and 2 n + 1, and node 256 + c column c alone.
+fn nodes(first: u16, end: u16) -> impl Iterator<Item = u16> {
+    let (mut first, mut end) = (first + 256, end + 256);
+    let mut nodes = [0; 16];
+    let mut count = 0;
+    while first < end {
+        if first % 2 == 1 {
+            nodes[count] = first;
+            count += 1;
+            first += 1;
+        }
+        if end % 2 == 1 {
+            end -= 1;
+            nodes[count] = end;
+            count += 1;
+        }
+        first /= 2;
+        end /= 2;
+    }
+    nodes.into_iter().take(count)
+}
+
+/// The first column of a node.
+fn left(node: u16) -> i64 {
+    let level = node.ilog2();
+    i64::from(node - (1 << level)) * (256 >> level)
+}
+
+/// The height of the edge 1/256 right of a column, times 2^62 and rounded down: edges of one node are apart there by more.
+fn rank(column: i64, e: &Edge) -> i128 {
+    let d = vector(e.a, e.b);
+    let width = d.x as i128;
+    let height = height(Point { x: 256 * column + 1, y: 0 }, e);
+    (height.div_euclid(width) << 62) + (height.rem_euclid(width) << 62) / width
 }
 
 fn build(vertices: &[Point], edges: &[Edge]) -> BTreeMap<i64, Strip> {
@@ -188,36 +256,131 @@ fn build(vertices: &[Point], edges: &[Edge]) -> BTreeMap<i64, Strip> {
     for h in vertices {
         strips.entry(h.x.div_euclid(256)).or_default().vertices.push(*h);
     }
+    for (number, strip) in &mut strips {
+        strip.arrange(*number);
+    }
     strips
 }
 
-fn bounds(near: &Nearest, h: Point) -> bool {
-    let reaches = |e: &Edge| e.a.x <= h.x && h.x <= e.b.x;
-    near.above.is_none_or(|e| !reaches(&e) || side(&e, query_point(h)) <= 0)
-        && near.below.is_none_or(|e| !reaches(&e) || side(&e, query_point(h)) >= 0)
+// A search by halves in a strip.
+
+impl Strip {
+    fn nearest(&self, number: i64, q: Point) -> Nearest {
+        let mut near = Nearest { vertex: self.vertex_at(q), ..Nearest::default() };
+        if near.vertex.is_some() {
+            return near;
+        }
+        let lower = self.verticals.partition_point(|e| query_point(e.a) <= q);
+        if let Some(e) = lower.checked_sub(1).and_then(|i| self.verticals.get(i)) {
+            near.take(q, e);
+        }
+        let mut node = (256 + q.x.div_euclid(256) - 256 * number) as u16;
+        while node > 0 {
+            let above = self.pieces.partition_point(|p| p.node < node || p.node == node && side(&p.edge, q) > 0);
+            for piece in &self.pieces[above.saturating_sub(1)..(above + 1).min(self.pieces.len())] {
+                near.take(q, &piece.edge);
+            }
+            node /= 2;
+        }
+        near
+    }
+
+    fn vertex_at(&self, q: Point) -> Option<Point> {
+        let first = self.vertices.partition_point(|h| query_point(*h) < q);
+        self.vertices.get(first).copied().filter(|h| query_point(*h) == q)
+    }
+
+    /// The two ends of the cell between the nearest edges.
+    fn ends(&self, number: i64, q: Point, near: &Nearest) -> (i64, i64) {
+        let (before, behind) = self.vertices.split_at(self.vertices.partition_point(|h| 256 * h.x <= q.x));
+        (last_bound(before, near, 256 * number), first_bound(behind, near, 256 * (number + 1)))
+    }
+}
+
+fn reaches(e: &Edge, h: Point) -> bool {
+    e.a.x <= h.x && h.x <= e.b.x
+}
+
+fn is_at_most(above: Option<Edge>, h: Point) -> bool {
+    above.is_none_or(|e| !reaches(&e, h) || side(&e, query_point(h)) <= 0)
+}
+
+fn is_at_least(below: Option<Edge>, h: Point) -> bool {
+    below.is_none_or(|e| !reaches(&e, h) || side(&e, query_point(h)) >= 0)
+}
+
+#[derive(Clone, Copy)]
+enum Side {
+    Below,
+    Above,
+}
+
+/// On which side of the cell a vertex lies, or `None` if it bounds the cell.
+fn side_of_cell(h: Point, near: &Nearest) -> Option<Side> {
+    if !is_at_least(near.below, h) {
+        Some(Side::Below)
+    } else if !is_at_most(near.above, h) {
+        Some(Side::Above)
+    } else {
+        None
+    }
+}
+
+fn lies(h: Point, side: Side, near: &Nearest) -> bool {
+    match side {
+        Side::Below => !is_at_least(near.below, h),
+        Side::Above => !is_at_most(near.above, h),
+    }
+}
+
+/// The first column that has a vertex on or between the nearest edges. Of those of one column that lie on one side of the
+/// cell many are passed over at a time: the first and the last of them tell.
+fn first_bound(vertices: &[Point], near: &Nearest, wall: i64) -> i64 {
+    let mut rest = vertices;
+    while let Some(first) = rest.first() {
+        let Some(side) = side_of_cell(*first, near) else {
+            return first.x;
+        };
+        let mut count = 1;
+        while count <= rest.len() / 2 && rest[2 * count - 1].x == first.x && lies(rest[2 * count - 1], side, near) {
+            count *= 2;
+        }
+        rest = &rest[count..];
+    }
+    wall
+}
+
+fn last_bound(vertices: &[Point], near: &Nearest, wall: i64) -> i64 {
+    let mut rest = vertices;
+    while let Some(last) = rest.last() {
+        let Some(side) = side_of_cell(*last, near) else {
+            return last.x;
+        };
+        let mut count = 1;
+        while count <= rest.len() / 2
+            && rest[rest.len() - 2 * count].x == last.x
+            && lies(rest[rest.len() - 2 * count], side, near)
+        {
+            count *= 2;
+        }
+        rest = &rest[..rest.len() - count];
+    }
+    wall
 }
 
 /// What is nearest, and how wide the cell is where the point lies between edges.
 fn find(strips: &BTreeMap<i64, Strip>, q: Point) -> (Nearest, i64) {
     let number = q.x.div_euclid(65536);
-    let (vertices, edges): (&[Point], &[Edge]) = match strips.get(&number) {
-        Some(strip) => (&strip.vertices, &strip.edges),
-        None => (&[], &[]),
+    let Some(strip) = strips.get(&number) else {
+        return (Nearest::default(), 256);
     };
-    let near = Nearest::among(vertices, edges, q);
-    let (mut left, mut right) = (256 * number, 256 * (number + 1));
+    let near = strip.nearest(number, q);
     if near.is_between() {
-        for h in vertices {
-            if q.x < 256 * h.x {
-                if h.x < right && bounds(&near, *h) {
-                    right = h.x;
-                }
-            } else if left < h.x && bounds(&near, *h) {
-                left = h.x;
-            }
-        }
+        let (left, right) = strip.ends(number, q, &near);
+        (near, right - left)
+    } else {
+        (near, 0)
     }
-    (near, right - left)
 }
 
 // The works.
