@@ -140,6 +140,7 @@ impl Nearest {
         near
     }
 
+    #[inline(always)]
     fn take(&mut self, q: Point, e: &Edge) {
         if q.x < 256 * e.a.x || 256 * e.b.x < q.x {
             return;
